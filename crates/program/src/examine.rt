@@ -1,0 +1,154 @@
+// The whole program: its records in order.
+
+ghost use mathlib.Core.Path.{_≡_};
+ghost use mathlib.Core.List.{[]};
+ghost use Prim.Native.Nat.{_≤_};
+ghost use lib.ListN.{length};
+ghost use Rattle.program.specs.Reading.{place};
+ghost use Rattle.program.specs.Verdict.{registers, rules, entries, ended, verdict};
+ghost use Rattle.std.specs.Vec.{made};
+ghost use Rattle.program.specs.Records.{listed, counted};
+use crate::kind::Kind;
+use crate::record::Opening;
+use crate::record::entry;
+use crate::record::opens;
+use crate::record::register;
+use crate::record::rule;
+use crate::refusal::Fault;
+use crate::refusal::Refusal;
+
+pub const MAX_BYTES: usize = 16_384;
+
+pub const MAX_REGISTERS: usize = 64;
+
+pub const MAX_RULES: usize = 32;
+
+pub const MAX_ENTRIES: usize = 64;
+
+/// How many records of each sort a program has.
+#[derive(Clone, Copy, Debug, PartialEq, Eq)]
+pub struct Counts {
+    pub registers: usize,
+    pub rules: usize,
+    pub entries: usize,
+}
+
+/// A program whose records are being read.
+#[derive(Drop)]
+pub struct Records<'a> {
+    /// The bytes that are left.
+    rest: &'a [u8],
+    /// The place behind the last of them.
+    end: usize,
+}
+
+impl Records<'_> {
+    /// A fault at the next byte.
+    fn fault(&self, refusal: Refusal) -> Fault
+        ensures { λ r. ⌜ r ≡ record { refusal = refusal; place = place (now (self .entry) .end) (now (now (self .entry) .rest)) } ⌝ }
+    {
+        Fault {
+            refusal,
+            place: self.end.saturating_sub(self.rest.len()),
+        }
+    }
+
+    /// Reads the registers, and notes the kind of each.
+    fn registers(&mut self, kinds: &mut [Kind]) -> Result<usize, Fault>
+        ensures is { λ r. ⌜ listed r (now (kinds .exit)) (now (now (self .exit) .rest)) ≡ registers (length (now (kinds .entry))) (now (self .entry) .end) [] (now (now (self .entry) .rest)) ⌝ }
+        ensures kept { λ _. ⌜ now (self .exit) .end ≡ now (self .entry) .end ⌝ }
+        ensures bound { λ r. ⌜ made r (λ n. n ≤ length (now (kinds .exit))) ⌝ }
+    {
+        let mut count = 0;
+        while let Opening::Register(fields) = opens(self.rest) {
+            if count >= kinds.len() {
+                return Err(self.fault(Refusal::Count));
+            }
+            let (kind, rest) = register(fields, self.end)?;
+            kinds[count] = kind;
+            count += 1;
+            self.rest = rest;
+        }
+        Ok(count)
+    }
+
+    /// Reads the rules of a program with registers of these kinds.
+    fn rules(&mut self, kinds: &[Kind]) -> Result<usize, Fault>
+        ensures is { λ r. ⌜ counted r (now (now (self .exit) .rest)) ≡ rules 32 (now (self .entry) .end) (now (kinds .entry)) 0 (now (now (self .entry) .rest)) ⌝ }
+        ensures kept { λ _. ⌜ now (self .exit) .end ≡ now (self .entry) .end ⌝ }
+        ensures bound { λ r. ⌜ made r (λ n. n ≤ 32) ⌝ }
+    {
+        let mut count = 0;
+        while let Opening::Rule(fields) = opens(self.rest) {
+            if kinds.is_empty() {
+                return Err(self.fault(Refusal::Order));
+            }
+            if count >= MAX_RULES {
+                return Err(self.fault(Refusal::Count));
+            }
+            self.rest = rule(fields, self.end, kinds)?;
+            count += 1;
+        }
+        Ok(count)
+    }
+
+    /// Reads the entries of a program with so many rules.
+    fn entries(&mut self, rules: usize) -> Result<usize, Fault>
+        requires { ⌜ rules ≤ 32 ⌝ }
+        ensures is { λ r. ⌜ counted r (now (now (self .exit) .rest)) ≡ entries 64 (now (self .entry) .end) rules 0 (now (now (self .entry) .rest)) ⌝ }
+        ensures kept { λ _. ⌜ now (self .exit) .end ≡ now (self .entry) .end ⌝ }
+    {
+        let mut count = 0;
+        while let Opening::Entry(fields) = opens(self.rest) {
+            if rules == 0 {
+                return Err(self.fault(Refusal::Order));
+            }
+            if count >= MAX_ENTRIES {
+                return Err(self.fault(Refusal::Count));
+            }
+            self.rest = entry(fields, self.end, rules)?;
+            count += 1;
+        }
+        Ok(count)
+    }
+
+    /// Asks that the program ends here, behind so many entries.
+    fn end(&self, entries: usize) -> Result<(), Fault>
+        ensures { λ r. ⌜ r ≡ ended (now (self .entry) .end) entries (now (now (self .entry) .rest)) ⌝ }
+    {
+        match self.rest {
+            [] if entries > 0 => Ok(()),
+            [_, _, ..] => Err(self.fault(Refusal::Order)),
+            _ => Err(Fault {
+                refusal: Refusal::Missing,
+                place: self.end,
+            }),
+        }
+    }
+}
+
+/// Reads a program's bytes, any number of them: how many records of each sort there are, or the first byte at fault.
+pub fn examine(program: &[u8]) -> Result<Counts, Fault>
+    ensures { λ r. ⌜ r ≡ verdict (now (program .entry)) ⌝ }
+{
+    if program.len() > MAX_BYTES {
+        return Err(Fault {
+            refusal: Refusal::Length,
+            place: 0,
+        });
+    }
+    let mut kinds = [Kind::Truth; MAX_REGISTERS];
+    let mut records = Records {
+        rest: program,
+        end: program.len(),
+    };
+    let registers = records.registers(&mut kinds)?;
+    let rules = records.rules(&kinds[0..registers])?;
+    let entries = records.entries(rules)?;
+    records.end(entries)?;
+    Ok(Counts {
+        registers,
+        rules,
+        entries,
+    })
+}
