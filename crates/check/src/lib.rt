@@ -1,0 +1,14 @@
+// The check of a manual's program, with what its answer means.
+
+ghost use mathlib.Core.Path.{_≡_};
+ghost use Rattle.program.specs.Verdict.{verdict};
+use program::examine::Counts;
+use program::examine::examine;
+use program::refusal::Fault;
+
+/// Checks a program's bytes, any number of them: how many registers, rules and entries it has, or its first byte at fault.
+pub fn check(bytes: &[u8]) -> Result<Counts, Fault>
+    ensures is { λ r. ⌜ r ≡ verdict (now (bytes .entry)) ⌝ }
+{
+    examine(bytes)
+}
