@@ -5,3 +5,7 @@ pub mod Reading
 pub mod Ways
 pub mod Verdict
 pub mod Records
+pub mod Tree
+pub mod Encoding
+pub mod Typing
+pub mod Decoding

@@ -1,0 +1,12 @@
+pub mod Accepts
+pub mod Inverses
+pub mod BackTrees
+pub mod BackRecords
+pub mod BackRows
+pub mod Decode
+pub mod Prefix
+pub mod PrefixTrees
+pub mod PrefixRecords
+pub mod PrefixRow
+pub mod PrefixProgram
+pub mod First
