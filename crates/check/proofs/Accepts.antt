@@ -31,7 +31,6 @@ kind-again Truth = refl
 kind-again Word = refl
 
 module _ (t : Body) where
-
   constant-reads : (k : Kind) (n d l : ℕ) (scope : List Kind) (want : Kind) (s : List ℕ) → k ≡ want → fits k n ≡ true →
       expression (suc d) t l scope want (expr-bytes (Constant k n) s) ≡ Ok s
   unfolding expression
@@ -132,8 +131,8 @@ expr-front (Variable v) s = refl
 expr-front (Operate o a b) s = ap (λ x. 5 ∷ (o ∷ x)) (both (expr-bytes a) (expr-bytes b) (expr-front a) (expr-front b) s)
 expr-front (Choose c a b) s =
     ap (λ x. 6 ∷ x)
-        (both (expr-bytes c) (λ r. expr-bytes a (expr-bytes b r)) (expr-front c)
-            (both (expr-bytes a) (expr-bytes b) (expr-front a) (expr-front b)) s)
+    (both (expr-bytes c) (λ r. expr-bytes a (expr-bytes b r)) (expr-front c)
+    (both (expr-bytes a) (expr-bytes b) (expr-front a) (expr-front b)) s)
 expr-front (Guard a c) s = ap (λ x. 7 ∷ x) (both (expr-bytes a) (expr-bytes c) (expr-front a) (expr-front c) s)
 expr-front (Let k a b) s =
     ap (λ x. 8 ∷ (kindByte k ∷ x)) (both (expr-bytes a) (expr-bytes b) (expr-front a) (expr-front b) s)
@@ -163,9 +162,15 @@ rule-reads end kinds a s good =
     let long : n / 256 * 256 + n % 256 ≡ n = omega arith in
     let room : n ≤ length (action-bytes a [] ++ s) = simp length-append (omega arith) in
     let body = action-reads (record { end = place end s; kinds = kinds; short = Fill }) a 24 8 8 [] []
-        (good .sound) (good .depth-within) (good .lets-within) (good .forks-within) in
-    rw (long, action-front a s, le-leb n (length (action-bytes a [] ++ s)) room, take-at (action-bytes a []) s n refl,
-        drop-at (action-bytes a []) s n refl, body)
+    (good .sound) (good .depth-within) (good .lets-within) (good .forks-within) in
+    rw (
+      long,
+      action-front a s,
+      le-leb n (length (action-bytes a [] ++ s)) room,
+      take-at (action-bytes a []) s n refl,
+      drop-at (action-bytes a []) s n refl,
+      body,
+    )
 
 entry-reads : (end rules : ℕ) (e : Entry) (s : List ℕ) → Good-entry rules e →
     entryOf end rules (e .rule ∷ four-bytes (e .blockers) s) ≡ Ok s
@@ -217,7 +222,7 @@ entries-read end rules (e ∷ es) (suc n) count s some good few stop =
 records-read : (end : ℕ) (p : Program) → Well-formed p → recordsOf end (encode p) ≡ Ok (counts p)
 records-read end p good =
     go (p .registers) (p .rules) (p .entries) (good .some-registers) (good .some-rules) (good .some-entries)
-        (good .good-registers) (good .good-rules) (good .good-entries)
+    (good .good-registers) (good .good-rules) (good .good-entries)
   where
     go : (rs : List Register) (us : List Action) (es : List Entry) → Some-up-to 64 rs → Some-up-to 32 us → Some-up-to 64 es →
         All Good-register rs → All (Good-rule (kinds-of rs)) us → All (Good-entry (length us)) es →

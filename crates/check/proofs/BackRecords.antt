@@ -55,7 +55,7 @@ register-got end (b ∷ s) x all h =
     let e : _≡_ {A = Kind × List ℕ} (k .0, v .0 .1) x = ok-ok (k .0, v .0 .1) x (fit .1) in
     let four = g .0 in
     let P : Kind × List ℕ → Type 0 =
-        λ y. (n : ℕ) × (b ∷ s ≡ kindByte (y .0) ∷ four-bytes n (y .1)) × (fits (y .0) n ≡ true) × Bytes (y .1) in
+    λ y. (n : ℕ) × (b ∷ s ≡ kindByte (y .0) ∷ four-bytes n (y .1)) × (fits (y .0) n ≡ true) × Bytes (y .1) in
     subst P e (v .0 .0, cc, fit .0, g .1)
 
 tree-got : (t : Body) (s : List ℕ) → Bytes s → tree t s ≡ Ok tt → (a : Action) × Good-rule (t .kinds) a × (s ≡ action-bytes a [])
@@ -63,10 +63,11 @@ tree-got t s all h =
     let r = then-ok (action 24 t 8 8 [] s) (filled t) tt h in
     let g = action-done t 24 8 8 [] s (r .0) all (r .1) in
     let none : r .0 ≡ [] = nothing (r .0) (r .2) in
-    let is = g .is in
-    (g .tree,
-     record { sound = g .sound; depth-within = g .depth-within; lets-within = g .lets-within; forks-within = g .forks-within },
-     cc)
+    let is = g .is in (
+      g .tree,
+      record { sound = g .sound; depth-within = g .depth-within; lets-within = g .lets-within; forks-within = g .forks-within },
+      cc,
+    )
   where
     nothing : (m : List ℕ) → filled t m ≡ Ok tt → m ≡ []
     nothing [] h = refl
@@ -78,8 +79,10 @@ body-got end kinds n s m all h = go (leb n (length s)) refl h
   where
     whole : Body
     whole = record { end = place end (drop n s); kinds = kinds; short = Fill }
+
     part : Body
     part = record { end = end; kinds = kinds; short = Missing }
+
     go : (b : Bool) → leb n (length s) ≡ b →
         cond b (and-then (tree whole (take n s)) (λ u. Ok (drop n s))) (and-then (tree part s) (λ u. Err (fault Missing end))) ≡ Ok m →
         (a : Action) × Good-rule kinds a × (s ≡ action-bytes a m) × (length (action-bytes a []) ≡ n) × Bytes m
@@ -117,4 +120,3 @@ entry-got end rules (r ∷ s) m all h =
     let end : v .0 .1 ≡ m = ok-ok (v .0 .1) m (w .1) in
     let four = g .0 in
     (record { rule = r; blockers = v .0 .0 }, (ltb-true r rules (u .0), ltb-true (v .0 .0) (2 ^ rules) (w .0)), cc, subst Bytes end (g .1))
-

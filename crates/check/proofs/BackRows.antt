@@ -37,6 +37,7 @@ shape (a ∷ (b ∷ s)) = go (eqb a 82) (eqb b 71) (eqb b 76) (eqb a 83) (eqb b 
   where
     pair : (x y : ℕ) → a ≡ x → b ≡ y → a ∷ (b ∷ s) ≡ x ∷ (y ∷ s)
     pair x y p q = cc
+
     go : (t1 t2 t3 t4 t5 : Bool) → eqb a 82 ≡ t1 → eqb b 71 ≡ t2 → eqb b 76 ≡ t3 → eqb a 83 ≡ t4 → eqb b 69 ≡ t5 → Shape (a ∷ (b ∷ s))
     go true true t3 t4 t5 e1 e2 e3 e4 e5 = is-register s (pair 82 71 (eqb-true a 82 e1) (eqb-true b 71 e2)) (rw (e1, e2))
     go true false true t4 t5 e1 e2 e3 e4 e5 = is-rule s (pair 82 76 (eqb-true a 82 e1) (eqb-true b 76 e3)) (rw (e1, e2, e3))
@@ -59,12 +60,11 @@ no-registers : (n : ℕ) (kinds : List Kind) (s : List ℕ) (x : List Kind × Li
 no-registers n kinds s x all h =
     let P : List Kind × List ℕ → Type 0 = λ y. Registers n kinds s y in
     subst P (ok-ok (kinds, s) x h)
-        (record { row = []; good = tt; few = omega arith; all-kinds = sym (append-nil kinds); is = refl; rest = all })
+    (record { row = []; good = tt; few = omega arith; all-kinds = sym (append-nil kinds); is = refl; rest = all })
 
 module _ (end n : ℕ)
     (inner : (kinds : List Kind) (s : List ℕ) (x : List Kind × List ℕ) → Bytes s → registers n end kinds s ≡ Ok x → Registers n kinds s x)
     (kinds : List Kind) (s : List ℕ) (x : List Kind × List ℕ) (all : Bytes s) (h : registers (suc n) end kinds s ≡ Ok x) where
-
   more-registers : Shape s → Registers (suc n) kinds s x
   unfolding registers
   more-registers (is-register g e o) =
@@ -75,8 +75,13 @@ module _ (end n : ℕ)
       let first : Register = record { kind = r .0 .0; initial = f .0 } in
       let one = f .1 in let others = y .is in
       record {
-        row = first ∷ y .row; good = (f .2, y .good); few = omega (arith, y .few);
-        all-kinds = y .all-kinds ∙ append-assoc kinds (r .0 .0 ∷ []) (kinds-of (y .row)); is = cc; rest = y .rest }
+        row = first ∷ y .row;
+        good = (f .2, y .good);
+        few = omega (arith, y .few);
+        all-kinds = y .all-kinds ∙ append-assoc kinds (r .0 .0 ∷ []) (kinds-of (y .row));
+        is = cc;
+        rest = y .rest;
+      }
   more-registers (is-rule g e o) = no-registers (suc n) kinds s x all (rw o at h)
   more-registers (is-entry g e o) = no-registers (suc n) kinds s x all (rw o at h)
   more-registers (is-unknown o) = no-registers (suc n) kinds s x all (rw o at h)
@@ -110,12 +115,11 @@ no-rules : (n : ℕ) (kinds : List Kind) (count : ℕ) (s : List ℕ) (x : ℕ �
 no-rules n kinds count s x all h =
     let P : ℕ × List ℕ → Type 0 = λ y. Rules n kinds count s y in
     subst P (ok-ok (count, s) x h)
-        (record { row = []; good = tt; few = omega arith; after-some = λ z. absurd (omega arith); number = sym (add-zero count); is = refl; rest = all })
+    (record { row = []; good = tt; few = omega arith; after-some = λ z. absurd (omega arith); number = sym (add-zero count); is = refl; rest = all })
 
 module _ (end : ℕ) (kinds : List Kind) (n : ℕ)
     (inner : (count : ℕ) (s : List ℕ) (x : ℕ × List ℕ) → Bytes s → rules n end kinds count s ≡ Ok x → Rules n kinds count s x)
     (count : ℕ) (s : List ℕ) (x : ℕ × List ℕ) (all : Bytes s) (h : rules (suc n) end kinds count s ≡ Ok x) where
-
   more-rules : Shape s → Rules (suc n) kinds count s x
   unfolding rules
   more-rules (is-register g e o) = no-rules (suc n) kinds count s x all (rw o at h)
@@ -127,9 +131,14 @@ module _ (end : ℕ) (kinds : List Kind) (n : ℕ)
       let y = inner (count + 1) (r .0) x (f .3) (r .2) in
       let one = f .2 in let others = y .is in
       record {
-        row = f .0 ∷ y .row; good = (f .1, y .good); few = omega (arith, y .few);
-        after-some = λ z. positive (length kinds) (eqb-false (length kinds) 0 (u .0)); number = omega (arith, y .number);
-        is = cc; rest = y .rest }
+        row = f .0 ∷ y .row;
+        good = (f .1, y .good);
+        few = omega (arith, y .few);
+        after-some = λ z. positive (length kinds) (eqb-false (length kinds) 0 (u .0));
+        number = omega (arith, y .number);
+        is = cc;
+        rest = y .rest;
+      }
   more-rules (is-entry g e o) = no-rules (suc n) kinds count s x all (rw o at h)
   more-rules (is-unknown o) = no-rules (suc n) kinds count s x all (rw o at h)
   more-rules (is-cut o) = no-rules (suc n) kinds count s x all (rw o at h)
@@ -161,12 +170,11 @@ no-entries : (n rules count : ℕ) (s : List ℕ) (x : ℕ × List ℕ) → _≡
 no-entries n rules count s x h =
     let P : ℕ × List ℕ → Type 0 = λ y. Entries n rules count s y in
     subst P (ok-ok (count, s) x h)
-        (record { row = []; good = tt; few = omega arith; after-some = λ z. absurd (omega arith); number = sym (add-zero count); is = refl })
+    (record { row = []; good = tt; few = omega arith; after-some = λ z. absurd (omega arith); number = sym (add-zero count); is = refl })
 
 module _ (end rules n : ℕ)
     (inner : (count : ℕ) (s : List ℕ) (x : ℕ × List ℕ) → Bytes s → entries n end rules count s ≡ Ok x → Entries n rules count s x)
     (count : ℕ) (s : List ℕ) (x : ℕ × List ℕ) (all : Bytes s) (h : entries (suc n) end rules count s ≡ Ok x) where
-
   more-entries : Shape s → Entries (suc n) rules count s x
   unfolding entries
   more-entries (is-register g e o) = no-entries (suc n) rules count s x (rw o at h)
@@ -179,8 +187,13 @@ module _ (end rules n : ℕ)
       let y = inner (count + 1) (r .0) x (f .3) (r .2) in
       let one = f .2 in let others = y .is in
       record {
-        row = f .0 ∷ y .row; good = (f .1, y .good); few = omega (arith, y .few);
-        after-some = λ z. positive rules (eqb-false rules 0 (u .0)); number = omega (arith, y .number); is = cc }
+        row = f .0 ∷ y .row;
+        good = (f .1, y .good);
+        few = omega (arith, y .few);
+        after-some = λ z. positive rules (eqb-false rules 0 (u .0));
+        number = omega (arith, y .number);
+        is = cc;
+      }
   more-entries (is-unknown o) = no-entries (suc n) rules count s x (rw o at h)
   more-entries (is-cut o) = no-entries (suc n) rules count s x (rw o at h)
 
@@ -228,19 +241,21 @@ encoded bytes c all h =
     let whole : bytes ≡ encode p = cc in
     let A : List Kind → Type 0 = λ ks. All (Good-rule ks) (us .row) in
     let B : ℕ → Type 0 = λ n. All (Good-entry n) (es .row) in
-    let made : Counts = record { registers = length (g .0 .0); rules = u .0 .0; entries = e .0 .0 } in
-    (p,
-     record {
-       some-registers = (some-registers, rs .few);
-       some-rules = (some-rules, us .few);
-       some-entries = (some-entries, es .few);
-       good-registers = rs .good;
-       good-rules = subst A kinds (us .good);
-       good-entries = subst B number (es .good);
-       size = subst (λ (s : List ℕ). length s ≤ 16384) whole (ltb-false 16384 (length bytes) (short .0)) },
-     whole,
-     sym (ok-ok made c (z .2)) ∙ counted (length (g .0 .0)) (length (rs .row)) (u .0 .0) (length (us .row)) (e .0 .0) (length (es .row))
-        (ap length kinds ∙ many) number (omega (arith, es .number)))
+    let made : Counts = record { registers = length (g .0 .0); rules = u .0 .0; entries = e .0 .0 } in (
+      p,
+      record {
+        some-registers = (some-registers, rs .few);
+        some-rules = (some-rules, us .few);
+        some-entries = (some-entries, es .few);
+        good-registers = rs .good;
+        good-rules = subst A kinds (us .good);
+        good-entries = subst B number (es .good);
+        size = subst (λ (s : List ℕ). length s ≤ 16384) whole (ltb-false 16384 (length bytes) (short .0));
+      },
+      whole,
+      sym (ok-ok made c (z .2)) ∙ counted (length (g .0 .0)) (length (rs .row)) (u .0 .0) (length (us .row)) (e .0 .0) (length (es .row))
+          (ap length kinds ∙ many) number (omega (arith, es .number)),
+    )
   where
     counted : (r r′ u u′ e e′ : ℕ) → r ≡ r′ → u ≡ u′ → e ≡ e′ →
         _≡_ {A = Counts} (record { registers = r; rules = u; entries = e }) (record { registers = r′; rules = u′; entries = e′ })

@@ -37,9 +37,8 @@ pub record Found (t : Body) (d l : ℕ) (scope : List Kind) (want : Kind) (s m :
 
 module _ (t : Body) (d : ℕ)
     (inner : (l : ℕ) (scope : List Kind) (want : Kind) (s m : List ℕ) → Bytes s → expression d t l scope want s ≡ Ok m →
-        Found t d l scope want s m)
+    Found t d l scope want s m)
     (l : ℕ) (scope : List Kind) (want : Kind) (from : List ℕ) where
-
   value-parts-got : (n : ValueNode) (s m : List ℕ) → from ≡ value-code n ∷ s → suits want n ≡ true → Bytes s →
       valueParts t (expression d t) l scope want from n s ≡ Ok m → Found t (suc d) l scope want from m
   value-parts-got ValueNode.Register s m first fit all h =
@@ -50,14 +49,24 @@ module _ (t : Body) (d : ℕ)
       let g = word-got t s m all h in
       let is = g .1 in
       record {
-        tree = Constant Word (g .0); typed = (sym (same-true want Word fit), g .2); deep-within = omega arith; lets-within = omega arith;
-        is = cc; rest = g .3 }
+        tree = Constant Word (g .0);
+        typed = (sym (same-true want Word fit), g .2);
+        deep-within = omega arith;
+        lets-within = omega arith;
+        is = cc;
+        rest = g .3;
+      }
   value-parts-got ValueNode.Truth s m first fit all h =
       let g = truth-got t s m all h in
       let is = g .1 in
       record {
-        tree = Constant Truth (g .0); typed = (sym (same-true want Truth fit), g .2); deep-within = omega arith; lets-within = omega arith;
-        is = cc; rest = g .3 }
+        tree = Constant Truth (g .0);
+        typed = (sym (same-true want Truth fit), g .2);
+        deep-within = omega arith;
+        lets-within = omega arith;
+        is = cc;
+        rest = g .3;
+      }
   value-parts-got ValueNode.Variable s m first fit all h =
       let g = wanted-got t scope want s m all h in
       let is = g .1 in
@@ -71,9 +80,13 @@ module _ (t : Body) (d : ℕ)
       let y = inner l scope (takes o) (q .0) m (x .rest) (ap (λ (k : Kind). expression d t l scope k (q .0)) (sym (g .4)) ∙ q .2) in
       let is = g .1 in let a = x .is in let b = y .is in
       record {
-        tree = Operate o (x .tree) (y .tree); typed = (g .2, g .3, x .typed, y .typed);
-        deep-within = omega (arith, x .deep-within, y .deep-within); lets-within = omega (arith, x .lets-within, y .lets-within);
-        is = cc; rest = y .rest }
+        tree = Operate o (x .tree) (y .tree);
+        typed = (g .2, g .3, x .typed, y .typed);
+        deep-within = omega (arith, x .deep-within, y .deep-within);
+        lets-within = omega (arith, x .lets-within, y .lets-within);
+        is = cc;
+        rest = y .rest;
+      }
   value-parts-got ValueNode.Choice s m first fit all h =
       let p = then-ok (expression d t l scope Truth s) _ m h in
       let q = then-ok (expression d t l scope want (p .0)) _ m (p .2) in
@@ -82,18 +95,26 @@ module _ (t : Body) (d : ℕ)
       let y = inner l scope want (q .0) m (x .rest) (q .2) in
       let c = z .is in let a = x .is in let b = y .is in
       record {
-        tree = Choose (z .tree) (x .tree) (y .tree); typed = (z .typed, x .typed, y .typed);
+        tree = Choose (z .tree) (x .tree) (y .tree);
+        typed = (z .typed, x .typed, y .typed);
         deep-within = omega (arith, z .deep-within, x .deep-within, y .deep-within);
-        lets-within = omega (arith, z .lets-within, x .lets-within, y .lets-within); is = cc; rest = y .rest }
+        lets-within = omega (arith, z .lets-within, x .lets-within, y .lets-within);
+        is = cc;
+        rest = y .rest;
+      }
   value-parts-got ValueNode.Guard s m first fit all h =
       let q = then-ok (expression d t l scope want s) _ m h in
       let x = inner l scope want s (q .0) all (q .1) in
       let y = inner l scope Truth (q .0) m (x .rest) (q .2) in
       let a = x .is in let b = y .is in
       record {
-        tree = Guard (x .tree) (y .tree); typed = (x .typed, y .typed);
-        deep-within = omega (arith, x .deep-within, y .deep-within); lets-within = omega (arith, x .lets-within, y .lets-within);
-        is = cc; rest = y .rest }
+        tree = Guard (x .tree) (y .tree);
+        typed = (x .typed, y .typed);
+        deep-within = omega (arith, x .deep-within, y .deep-within);
+        lets-within = omega (arith, x .lets-within, y .lets-within);
+        is = cc;
+        rest = y .rest;
+      }
   value-parts-got ValueNode.Let s m first fit all h =
       let u = not-ok (eqb l 0) _ _ m h in
       let some = eqb-false l 0 (u .0) in
@@ -105,9 +126,13 @@ module _ (t : Body) (d : ℕ)
       let is = g .0 in let a = x .is in let b = y .is in
       let one : 1 ≤ l = positive l some in
       record {
-        tree = Let (k .0 .0) (x .tree) (y .tree); typed = (x .typed, y .typed);
-        deep-within = omega (arith, x .deep-within, y .deep-within); lets-within = omega (arith, x .lets-within, y .lets-within);
-        is = cc; rest = y .rest }
+        tree = Let (k .0 .0) (x .tree) (y .tree);
+        typed = (x .typed, y .typed);
+        deep-within = omega (arith, x .deep-within, y .deep-within);
+        lets-within = omega (arith, x .lets-within, y .lets-within);
+        is = cc;
+        rest = y .rest;
+      }
 
 pub expression-got : (t : Body) (d l : ℕ) (scope : List Kind) (want : Kind) (s m : List ℕ) → Bytes s →
     expression d t l scope want s ≡ Ok m → Found t d l scope want s m
@@ -132,7 +157,6 @@ pub record Done (t : Body) (d l f : ℕ) (scope : List Kind) (s m : List ℕ) : 
 module _ (t : Body) (d : ℕ)
     (inner : (l f : ℕ) (scope : List Kind) (s m : List ℕ) → Bytes s → action d t l f scope s ≡ Ok m → Done t d l f scope s m)
     (l f : ℕ) (scope : List Kind) (from : List ℕ) where
-
   action-parts-got : (n : ActionNode) (s m : List ℕ) → from ≡ action-code n ∷ s → Bytes s →
       actionParts t (expression d t) (action d t) l f scope from n s ≡ Ok m → Done t (suc d) l f scope from m
   action-parts-got ActionNode.Assign s m first all h =
@@ -141,18 +165,28 @@ module _ (t : Body) (d : ℕ)
       let x = expression-got t d l scope (r .0 .0) (r .0 .1) m (g .3) (r .2) in
       let is = g .1 in let a = x .is in
       record {
-        tree = Assign (g .0) (x .tree); sound = (g .2 .0, rw (g .2 .1) (x .typed));
-        depth-within = omega (arith, x .deep-within); lets-within = x .lets-within; forks-within = omega arith;
-        is = cc; rest = x .rest }
+        tree = Assign (g .0) (x .tree);
+        sound = (g .2 .0, rw (g .2 .1) (x .typed));
+        depth-within = omega (arith, x .deep-within);
+        lets-within = x .lets-within;
+        forks-within = omega arith;
+        is = cc;
+        rest = x .rest;
+      }
   action-parts-got ActionNode.If s m first all h =
       let r = then-ok (expression d t l scope Truth s) _ m h in
       let z = expression-got t d l scope Truth s (r .0) all (r .1) in
       let x = inner l f scope (r .0) m (z .rest) (r .2) in
       let c = z .is in let a = x .is in
       record {
-        tree = If (z .tree) (x .tree); sound = (z .typed, x .sound);
-        depth-within = omega (arith, z .deep-within, x .depth-within); lets-within = omega (arith, z .lets-within, x .lets-within);
-        forks-within = x .forks-within; is = cc; rest = x .rest }
+        tree = If (z .tree) (x .tree);
+        sound = (z .typed, x .sound);
+        depth-within = omega (arith, z .deep-within, x .depth-within);
+        lets-within = omega (arith, z .lets-within, x .lets-within);
+        forks-within = x .forks-within;
+        is = cc;
+        rest = x .rest;
+      }
   action-parts-got ActionNode.Parallel s m first all h =
       let u = not-ok (eqb f 0) _ _ m h in
       let r = then-ok (action d t l (f - 1) scope s) _ m (u .1) in
@@ -161,27 +195,42 @@ module _ (t : Body) (d : ℕ)
       let one : 1 ≤ f = positive f (eqb-false f 0 (u .0)) in
       let a = x .is in let b = y .is in
       record {
-        tree = Parallel (x .tree) (y .tree); sound = (x .sound, y .sound);
-        depth-within = omega (arith, x .depth-within, y .depth-within); lets-within = omega (arith, x .lets-within, y .lets-within);
-        forks-within = omega (arith, x .forks-within, y .forks-within); is = cc; rest = y .rest }
+        tree = Parallel (x .tree) (y .tree);
+        sound = (x .sound, y .sound);
+        depth-within = omega (arith, x .depth-within, y .depth-within);
+        lets-within = omega (arith, x .lets-within, y .lets-within);
+        forks-within = omega (arith, x .forks-within, y .forks-within);
+        is = cc;
+        rest = y .rest;
+      }
   action-parts-got ActionNode.Sequence s m first all h =
       let r = then-ok (action d t l f scope s) _ m h in
       let x = inner l f scope s (r .0) all (r .1) in
       let y = inner l f scope (r .0) m (x .rest) (r .2) in
       let a = x .is in let b = y .is in
       record {
-        tree = Sequence (x .tree) (y .tree); sound = (x .sound, y .sound);
-        depth-within = omega (arith, x .depth-within, y .depth-within); lets-within = omega (arith, x .lets-within, y .lets-within);
-        forks-within = omega (arith, x .forks-within, y .forks-within); is = cc; rest = y .rest }
+        tree = Sequence (x .tree) (y .tree);
+        sound = (x .sound, y .sound);
+        depth-within = omega (arith, x .depth-within, y .depth-within);
+        lets-within = omega (arith, x .lets-within, y .lets-within);
+        forks-within = omega (arith, x .forks-within, y .forks-within);
+        is = cc;
+        rest = y .rest;
+      }
   action-parts-got ActionNode.When s m first all h =
       let r = then-ok (action d t l f scope s) _ m h in
       let x = inner l f scope s (r .0) all (r .1) in
       let z = expression-got t d l scope Truth (r .0) m (x .rest) (r .2) in
       let a = x .is in let c = z .is in
       record {
-        tree = When (x .tree) (z .tree); sound = (x .sound, z .typed);
-        depth-within = omega (arith, x .depth-within, z .deep-within); lets-within = omega (arith, x .lets-within, z .lets-within);
-        forks-within = x .forks-within; is = cc; rest = z .rest }
+        tree = When (x .tree) (z .tree);
+        sound = (x .sound, z .typed);
+        depth-within = omega (arith, x .depth-within, z .deep-within);
+        lets-within = omega (arith, x .lets-within, z .lets-within);
+        forks-within = x .forks-within;
+        is = cc;
+        rest = z .rest;
+      }
   action-parts-got ActionNode.Let s m first all h =
       let u = not-ok (eqb l 0) _ _ m h in
       let k = then-ok (kindAt t s) _ m (u .1) in
@@ -192,17 +241,28 @@ module _ (t : Body) (d : ℕ)
       let one : 1 ≤ l = positive l (eqb-false l 0 (u .0)) in
       let is = g .0 in let a = x .is in let b = y .is in
       record {
-        tree = LetIn (k .0 .0) (x .tree) (y .tree); sound = (x .typed, y .sound);
-        depth-within = omega (arith, x .deep-within, y .depth-within); lets-within = omega (arith, x .lets-within, y .lets-within);
-        forks-within = y .forks-within; is = cc; rest = y .rest }
+        tree = LetIn (k .0 .0) (x .tree) (y .tree);
+        sound = (x .typed, y .sound);
+        depth-within = omega (arith, x .deep-within, y .depth-within);
+        lets-within = omega (arith, x .lets-within, y .lets-within);
+        forks-within = y .forks-within;
+        is = cc;
+        rest = y .rest;
+      }
   action-parts-got ActionNode.Local s m first all h =
       let u = not-ok (eqb f 0) _ _ m h in
       let x = inner l (f - 1) scope s m all (u .1) in
       let one : 1 ≤ f = positive f (eqb-false f 0 (u .0)) in
       let a = x .is in
       record {
-        tree = Local (x .tree); sound = x .sound; depth-within = omega (arith, x .depth-within); lets-within = x .lets-within;
-        forks-within = omega (arith, x .forks-within); is = cc; rest = x .rest }
+        tree = Local (x .tree);
+        sound = x .sound;
+        depth-within = omega (arith, x .depth-within);
+        lets-within = x .lets-within;
+        forks-within = omega (arith, x .forks-within);
+        is = cc;
+        rest = x .rest;
+      }
 
 pub action-done : (t : Body) (d l f : ℕ) (scope : List Kind) (s m : List ℕ) → Bytes s →
     action d t l f scope s ≡ Ok m → Done t d l f scope s m

@@ -26,8 +26,11 @@ expr-again (Operate o a b) (suc d) s p =
     rw (expr-again a d (expr-bytes b s) (omega arith), expr-again b d s (omega arith))
 expr-again (Choose c a b) zero s p = absurd (omega arith)
 expr-again (Choose c a b) (suc d) s p =
-    rw (expr-again c d (expr-bytes a (expr-bytes b s)) (omega arith), expr-again a d (expr-bytes b s) (omega arith),
-        expr-again b d s (omega arith))
+    rw (
+      expr-again c d (expr-bytes a (expr-bytes b s)) (omega arith),
+      expr-again a d (expr-bytes b s) (omega arith),
+      expr-again b d s (omega arith),
+    )
 expr-again (Guard a c) zero s p = absurd (omega arith)
 expr-again (Guard a c) (suc d) s p =
     rw (expr-again a d (expr-bytes c s) (omega arith), expr-again c d s (omega arith))
@@ -88,7 +91,7 @@ always (x ∷ xs) = (tt, always xs)
 pub decodes : (p : Program) → Well-formed p → program-of (encode p) ≡ p
 decodes p good =
     go (p .registers) (p .rules) (p .entries) (good .some-registers) (good .some-rules) (good .some-entries)
-        (all-of (λ (a : Action) (g : Good-rule (kinds-of (p .registers)) a). g .depth-within) (p .rules) (good .good-rules))
+    (all-of (λ (a : Action) (g : Good-rule (kinds-of (p .registers)) a). g .depth-within) (p .rules) (good .good-rules))
   where
     go : (rs : List Register) (us : List Action) (es : List Entry) → Some-up-to 64 rs → Some-up-to 32 us → Some-up-to 64 es →
         All (λ (a : Action). depth a ≤ 24) us →
@@ -98,7 +101,7 @@ decodes p good =
     go rs (u ∷ us) (e ∷ es) x y z within =
         let behind : List ℕ = all-bytes entry-bytes (e ∷ es) [] in
         let a = row-again register-of register-bytes (λ (r : Register). Unit {0}) (λ r s t. register-again r s) rs 64
-            (all-bytes rule-bytes (u ∷ us) behind) (always rs) refl (x .1) in
+        (all-bytes rule-bytes (u ∷ us) behind) (always rs) refl (x .1) in
         let b = row-again rule-of rule-bytes (λ (a : Action). depth a ≤ 24) rule-again (u ∷ us) 32 behind within refl (y .1) in
         let c = row-again entry-of entry-bytes (λ (r : Entry). Unit {0}) (λ r s t. entry-again r s) (e ∷ es) 64 [] (always (e ∷ es)) refl (z .1) in
         rw (a, b, c)

@@ -46,6 +46,7 @@ same-fault u v v′ f near h = go (records-beside (length u) v u)
     other e (stays c e₀ e₁) = absurd (ok-err c f (sym e₀ ∙ e))
     other e (fails g e₀ e₁) = e₁ ∙ ap Err (err-err g f (sym e₀ ∙ e))
     other e (past l₀ l) = let late : length u < f .place + 4 = subst (Late (length u) nothing (length u)) e l₀ in absurd (omega arith)
+
     go : Beside (length u) (length u + length v) nothing as-is (recordsOf (length u) u) (recordsOf (length u + length v) (u ++ v)) →
         recordsOf (length u + length v′) (u ++ v′) ≡ Err f
     go (stays c e₀ e₁) = absurd (ok-err c f (sym e₁ ∙ h))
@@ -66,6 +67,7 @@ decided s t f few-s few-t same h = go (ltb (length s) (f .place + 4)) refl
   where
     n : ℕ
     n = f .place + 4
+
     go : (b : Bool) → ltb (length s) (f .place + 4) ≡ b → verdict t ≡ Err f
     go true e = ap verdict (whole (f .place + 4) s t (ltb-true (length s) (f .place + 4) e) same) ∙ h
     go false e =
@@ -74,11 +76,11 @@ decided s t f few-s few-t same h = go (ltb (length s) (f .place + 4)) refl
         let long : length u ≡ f .place + 4 = length-take-le (f .place + 4) s enough in
         let s-is : u ++ drop (f .place + 4) s ≡ s = take-append-drop (f .place + 4) s in
         let t-is : u ++ drop (f .place + 4) t ≡ t =
-            ap (λ (x : List ℕ). x ++ drop (f .place + 4) t) (sym same) ∙ take-append-drop (f .place + 4) t in
+        ap (λ (x : List ℕ). x ++ drop (f .place + 4) t) (sym same) ∙ take-append-drop (f .place + 4) t in
         let s-long : length u + length (drop (f .place + 4) s) ≡ length s = sym (length-append u (drop (f .place + 4) s)) ∙ ap length s-is in
         let t-long : length u + length (drop (f .place + 4) t) ≡ length t = sym (length-append u (drop (f .place + 4) t)) ∙ ap length t-is in
         let first : recordsOf (length u + length (drop (f .place + 4) s)) (u ++ drop (f .place + 4) s) ≡ Err f =
-            rw (s-long, s-is) (sym (by-records s few-s) ∙ h) in
+        rw (s-long, s-is) (sym (by-records s few-s) ∙ h) in
         let then = same-fault u (drop (f .place + 4) s) (drop (f .place + 4) t) f (omega arith) first in
         by-records t few-t ∙ rw (t-long, t-is) at then
 
@@ -91,8 +93,8 @@ clear-before s t f g few-s few-t same h k = go (ltb (f .place) (g .place + 4)) r
     go false e =
         let before : g .place + 4 ≤ f .place = ltb-false (f .place) (g .place + 4) e in
         let alike : take (g .place + 4) s ≡ take (g .place + 4) t =
-            sym (take-take (g .place + 4) (f .place) s before) ∙ ap (λ (x : List ℕ). take (g .place + 4) x) (sym same)
-                ∙ take-take (g .place + 4) (f .place) t before in
+        sym (take-take (g .place + 4) (f .place) s before) ∙ ap (λ (x : List ℕ). take (g .place + 4) x) (sym same)
+        ∙ take-take (g .place + 4) (f .place) t before in
         let is : g ≡ f = err-err g f (sym (decided t s g few-t few-s alike k) ∙ h) in
         let at : g .place ≡ f .place = ap (λ (x : Fault). x .place) is in
         absurd (omega arith)

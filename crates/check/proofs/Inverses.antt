@@ -121,6 +121,7 @@ operator-low b o h = go (ltb b 9) refl h
   where
     known : Operator
     known = record { takes = takes b; gives = gives b }
+
     go : (t : Bool) → ltb b 9 ≡ t → cond t (Some known) None ≡ Some o → (b < 9) × (o .takes ≡ takes b) × (o .gives ≡ gives b)
     go true e h =
         let is : o ≡ known = sym (some-some known o h) in
@@ -144,7 +145,6 @@ pub record Got (s : List ℕ) (b : ℕ) (r : List ℕ) : Type 0 where
   pub rest : Bytes r
 
 module _ (t : Body) where
-
   pub byte-got : (s : List ℕ) (x : ℕ × List ℕ) → Bytes s → byteOf t s ≡ Ok x → Got s (x .0) (x .1)
   byte-got [] x all h = absurd (err-ok (fault (t .short) (t .end)) x h)
   byte-got (b ∷ s) x all h =
@@ -168,7 +168,7 @@ module _ (t : Body) where
       let whole = four-bytes-of (ra .0 .0) (rb .0 .0) (rc .0 .0) (rd .0 .0) m (a .small) (b .small) (c .small) (d .small) in
       let e0 = a .is in let e1 = b .is in let e2 = c .is in let e3 = d .is in
       let small : ra .0 .0 * 16777216 + rb .0 .0 * 65536 + rc .0 .0 * 256 + rd .0 .0 < 4294967296 =
-          omega (arith, a .small, b .small, c .small, d .small) in
+      omega (arith, a .small, b .small, c .small, d .small) in
       (n, cc, lt-ltb n (2 ^ 32) small, subst Bytes end (d .rest))
 
   pub truth-got : (s m : List ℕ) → Bytes s → truthOf t s ≡ Ok m → (n : ℕ) × (s ≡ n ∷ m) × (fits Truth n ≡ true) × Bytes m
@@ -222,7 +222,7 @@ module _ (t : Body) where
       let end : _≡_ {A = Operator × List ℕ} (o .0, r .0 .1) x = ok-ok (o .0, r .0 .1) x (k .1) in
       let low = operator-low (r .0 .0) (o .0) known in
       let P : Operator × List ℕ → Type 0 =
-          λ y. (n : ℕ) × (s ≡ n ∷ y .1) × (n < 9) × (gives n ≡ want) × (y .0 .takes ≡ takes n) × Bytes (y .1) in
+      λ y. (n : ℕ) × (s ≡ n ∷ y .1) × (n < 9) × (gives n ≡ want) × (y .0 .takes ≡ takes n) × Bytes (y .1) in
       subst P end (r .0 .0, g .is, low .0, sym (low .2) ∙ same-true (o .0 .gives) want (k .0), low .1, g .rest)
 
   pub value-got : (want : Kind) (s : List ℕ) (x : ValueNode × List ℕ) → Bytes s → valueAt t want s ≡ Ok x →

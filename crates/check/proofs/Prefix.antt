@@ -30,7 +30,6 @@ Late a rest end (Ok y) = a + length (rest y) < end + 2
 Late a rest end (Err f) = a < f .place + 4
 
 module _ {A B : Type 0} (restA : A → List ℕ) (restB : B → List ℕ) where
-
   pub weaken : (end : ℕ) (s s′ : List ℕ) (r : Result B Fault) → length s′ ≤ length s → Beyond restB end s′ r → Beyond restB end s r
   weaken end s s′ (Ok y) le h = omega arith
   weaken end s s′ (Err f) le h = omega arith
@@ -68,7 +67,6 @@ then-same a end growA restB growB r₀ r f₀ f (fails-same x e e′) k = rw (e,
 
 module _ {A B : Type 0} (a end : ℕ) (restA : A → List ℕ) (growA : A → A) (restB : B → List ℕ) (growB : B → B)
     (r₀ r : Result A Fault) (f₀ f : A → Result B Fault) where
-
   pub then-beside : Beside a end restA growA r₀ r →
       ((y : A) → Beside a end restB growB (f₀ y) (f (growA y))) →
       ((y : A) → Beyond restB a (restA y) (f₀ y)) → ((y : A) → Beyond restB end (restA y) (f y)) →
@@ -96,13 +94,11 @@ abbrev pub further : {A : Type 0} → List ℕ → A × List ℕ → A × List �
 further v x = (x .0, x .1 ++ v)
 
 module _ (v : List ℕ) (p : ℕ) (q : Refusal) where
-
   judged-test : (b : Bool) → Judged left (longer v) v p (λ m. cond b (Ok m) (Err (fault q p)))
   judged-test true = content left (λ m. refl) (λ m. refl) (λ m. refl)
   judged-test false = refused q (λ m. refl)
 
   module _ {X : Type 0} where
-
     judged-value : (b : Bool) (x : X) → Judged behind (further v) v p (λ m. cond b (Ok (x, m)) (Err (fault q p)))
     judged-value true x = content (λ m. (x, m)) (λ m. refl) (λ m. refl) (λ m. refl)
     judged-value false x = refused q (λ m. refl)
@@ -119,7 +115,7 @@ module _ (v : List ℕ) (p : ℕ) (q : Refusal) where
 
     judged-both : (b : Bool) (x : X) (test : X → Bool) →
         Judged left (longer v) v p
-            (λ m. and-then {A = X × List ℕ} (cond b (Ok (x, m)) (Err (fault q p))) (λ k. cond (test (k .0)) (Ok (k .1)) (Err (fault q p))))
+        (λ m. and-then {A = X × List ℕ} (cond b (Ok (x, m)) (Err (fault q p))) (λ k. cond (test (k .0)) (Ok (k .1)) (Err (fault q p))))
     judged-both true x test = judged-test (test x)
     judged-both false x test = refused q (λ m. refl)
 
@@ -134,7 +130,6 @@ pub record One-byte {A : Type 0} (rest : A → List ℕ) (grow : List ℕ → A 
   pub judged : (v : List ℕ) (c p : ℕ) → Judged rest (grow v) v p (judge c p)
 
 module _ {A : Type 0} {rest : A → List ℕ} {grow : List ℕ → A → A} {L : ℕ → Refusal → List ℕ → Result A Fault} (o : One-byte rest grow L) where
-
   pub one-beyond : (end : ℕ) (q : Refusal) (s : List ℕ) → Beyond rest end s (L end q s)
   one-beyond end q [] = rw (o .none end q) (omega arith)
   one-beyond end q (c ∷ m) = rw (o .some end q c m) (go (o .judged [] c (place end (c ∷ m))))
@@ -175,51 +170,70 @@ module _ {A : Type 0} {rest : A → List ℕ} {grow : List ℕ → A → A} {L :
 
 -- The readers of one byte.
 module _ (kinds : List Kind) where
-
   abbrev pub body : ℕ → Refusal → Body
   body end q = record { end = end; kinds = kinds; short = q }
 
   pub byte-one : One-byte behind further (λ end q. byteOf (body end q))
   byte-one = record {
-      judge = λ c p m. Ok (c, m); none = λ end q. refl; some = λ end q c m. refl;
-      judged = λ v c p. judged-value v p Sort true c }
+    judge = λ c p m. Ok (c, m);
+    none = λ end q. refl;
+    some = λ end q c m. refl;
+    judged = λ v c p. judged-value v p Sort true c;
+  }
 
   pub truth-one : One-byte left longer (λ end q. truthOf (body end q))
   truth-one = record {
-      judge = λ c p m. cond (ltb c 2) (Ok m) (Err (fault Sort p)); none = λ end q. refl; some = λ end q c m. refl;
-      judged = λ v c p. judged-test v p Sort (ltb c 2) }
+    judge = λ c p m. cond (ltb c 2) (Ok m) (Err (fault Sort p));
+    none = λ end q. refl;
+    some = λ end q c m. refl;
+    judged = λ v c p. judged-test v p Sort (ltb c 2);
+  }
 
   pub kind-one : One-byte behind further (λ end q. kindAt (body end q))
   kind-one = record {
-      judge = λ c p m. and-then (or-fault (fault Sort p) (kindOf c)) (λ k. Ok (k, m)); none = λ end q. refl; some = λ end q c m. refl;
-      judged = λ v c p. judged-plain v p Sort (kindOf c) }
+    judge = λ c p m. and-then (or-fault (fault Sort p) (kindOf c)) (λ k. Ok (k, m));
+    none = λ end q. refl;
+    some = λ end q c m. refl;
+    judged = λ v c p. judged-plain v p Sort (kindOf c);
+  }
 
   pub operator-one : (want : Kind) → One-byte behind further (λ end q. operatorAt (body end q) want)
   operator-one want = record {
-      judge = λ c p m. and-then (or-fault (fault Sort p) (operatorOf c)) (λ o. cond (same (o .gives) want) (Ok (o, m)) (Err (fault Sort p)));
-      none = λ end q. refl; some = λ end q c m. refl;
-      judged = λ v c p. judged-option v p Sort (operatorOf c) (λ o. same (o .gives) want) }
+    judge = λ c p m. and-then (or-fault (fault Sort p) (operatorOf c)) (λ o. cond (same (o .gives) want) (Ok (o, m)) (Err (fault Sort p)));
+    none = λ end q. refl;
+    some = λ end q c m. refl;
+    judged = λ v c p. judged-option v p Sort (operatorOf c) (λ o. same (o .gives) want);
+  }
 
   pub value-one : (want : Kind) → One-byte behind further (λ end q. valueAt (body end q) want)
   value-one want = record {
-      judge = λ c p m. and-then (or-fault (fault Sort p) (valueNode c)) (λ n. cond (suits want n) (Ok (n, m)) (Err (fault Sort p)));
-      none = λ end q. refl; some = λ end q c m. refl;
-      judged = λ v c p. judged-option v p Sort (valueNode c) (suits want) }
+    judge = λ c p m. and-then (or-fault (fault Sort p) (valueNode c)) (λ n. cond (suits want n) (Ok (n, m)) (Err (fault Sort p)));
+    none = λ end q. refl;
+    some = λ end q c m. refl;
+    judged = λ v c p. judged-option v p Sort (valueNode c) (suits want);
+  }
 
   pub action-one : One-byte behind further (λ end q. actionAt (body end q))
   action-one = record {
-      judge = λ c p m. and-then (or-fault (fault Sort p) (actionNode c)) (λ n. Ok (n, m)); none = λ end q. refl; some = λ end q c m. refl;
-      judged = λ v c p. judged-plain v p Sort (actionNode c) }
+    judge = λ c p m. and-then (or-fault (fault Sort p) (actionNode c)) (λ n. Ok (n, m));
+    none = λ end q. refl;
+    some = λ end q c m. refl;
+    judged = λ v c p. judged-plain v p Sort (actionNode c);
+  }
 
   pub named-one : (names : List Kind) → One-byte behind further (λ end q. namedOf (body end q) names)
   named-one names = record {
-      judge = λ c p m. cond (ltb c (length names)) (Ok (getD names c Truth, m)) (Err (fault Name p));
-      none = λ end q. refl; some = λ end q c m. refl;
-      judged = λ v c p. judged-value v p Name (ltb c (length names)) (getD names c Truth) }
+    judge = λ c p m. cond (ltb c (length names)) (Ok (getD names c Truth, m)) (Err (fault Name p));
+    none = λ end q. refl;
+    some = λ end q c m. refl;
+    judged = λ v c p. judged-value v p Name (ltb c (length names)) (getD names c Truth);
+  }
 
   pub wanted-one : (names : List Kind) (want : Kind) → One-byte left longer (λ end q. wantedOf (body end q) names want)
   wanted-one names want = record {
-      judge = λ c p m. and-then {A = Kind × List ℕ} (cond (ltb c (length names)) (Ok (getD names c Truth, m)) (Err (fault Name p)))
-          (λ k. cond (same (k .0) want) (Ok (k .1)) (Err (fault Name p)));
-      none = λ end q. refl; some = λ end q c m. refl;
-      judged = λ v c p. judged-both v p Name (ltb c (length names)) (getD names c Truth) (λ k. same k want) }
+    judge = λ c p m. and-then {A = Kind × List ℕ} (cond (ltb c (length names)) (Ok (getD names c Truth, m)) (Err (fault Name p)))
+        (λ k. cond (same (k .0) want) (Ok (k .1)) (Err (fault Name p)));
+    none = λ end q. refl;
+    some = λ end q c m. refl;
+    judged = λ v c p. judged-both v p Name (ltb c (length names)) (getD names c Truth) (λ k. same k want);
+  }

@@ -37,7 +37,6 @@ four (a ∷ (b ∷ (c ∷ (d ∷ s)))) = enough (a * 16777216 + b * 65536 + c * 
 
 -- A value or a mask: a number of four bytes that has to pass a test.
 module _ {A : Type 0} (rest : A → List ℕ) (make : List ℕ → A) (is : (m : List ℕ) → rest (make m) ≡ m) (test : ℕ → Bool) (q : Refusal) where
-
   abbrev tested : ℕ → List ℕ → Bool → List ℕ → Result A Fault
   tested end s b m = cond b (Ok (make m)) (Err (fault q (place end s)))
 
@@ -56,7 +55,6 @@ module _ {A : Type 0} (rest : A → List ℕ) (make : List ℕ → A) (is : (m :
       go (enough n m e long more) = rw e (tested-beyond end s (test n) m (omega arith))
 
   module _ (a : ℕ) (v : List ℕ) (grow : A → A) (grown : (m : List ℕ) → grow (make m) ≡ make (m ++ v)) where
-
     tested-late : (w m : List ℕ) (b : Bool) → length w < 4 → length (w ++ v) ≡ 4 + length m →
         Late a rest (a + length v) (tested (a + length v) (w ++ v) b m)
     tested-late w m true less long = rw (is m) (omega (arith, length-append w v))
@@ -122,15 +120,19 @@ body-beyond end kinds n s = go (leb n (length s)) refl
   where
     whole : Body
     whole = body kinds (place end (drop n s)) Fill
+
     cut-off : Body
     cut-off = body kinds end Missing
+
     all-there : (r : Result (Unit {0}) Fault) → n ≤ length s → Beyond (λ u. []) (place end (drop n s)) (take n s) r →
         Beyond left end s (and-then r (λ u. Ok (drop n s)))
     all-there (Ok u) le h = omega (arith, length-drop n s)
     all-there (Err f) le h = omega (arith, length-drop n s, length-take-le n s le)
+
     part-there : (r : Result (Unit {0}) Fault) → Beyond (λ u. []) end s r → Beyond left end s (and-then r (λ u. Err (fault Missing end)))
     part-there (Ok u) h = omega arith
     part-there (Err f) h = h
+
     go : (b : Bool) → leb n (length s) ≡ b →
         Beyond left end s (cond b (and-then (tree whole (take n s)) (λ u. Ok (drop n s))) (and-then (tree cut-off s) (λ u. Err (fault Missing end))))
     go true e =
@@ -151,7 +153,6 @@ take-over (suc n) (b ∷ w) v le =
     ap (λ (s : List ℕ). b ∷ s) (take-over n w v (omega arith) ∙ ap (λ (k : ℕ). w ++ take k v) (sym same))
 
 module _ (a : ℕ) (v : List ℕ) where
-
   abbrev end : ℕ
   end = a + length v
 
@@ -177,7 +178,6 @@ module _ (a : ℕ) (v : List ℕ) where
 
   -- A tree that is cut off at `a` in the first bytes, and not there in the whole: v₁ is what is left of its body.
   module _ (kinds : List Kind) (v₁ : List ℕ) (q : Refusal) (X : Passed) (late-X : Late a left end X) where
-
     abbrev tend : ℕ
     tend = a + length v₁
 
@@ -210,7 +210,6 @@ module _ (a : ℕ) (v : List ℕ) where
             past (finish-late a a r₀ (Err (fault Missing a)) t₀ refl l₀ (omega arith)) (finish-late tend end r X t₁ refl l late-X)
 
   module _ (kinds : List Kind) (n : ℕ) (w : List ℕ) where
-
     whole-beside : (r : Result (Unit {0}) Fault) →
         Beside a end left (longer v) (and-then r (λ u. Ok (drop n w))) (and-then r (λ u. Ok (drop n w ++ v)))
     whole-beside (Ok u) = stays (drop n w) refl refl
@@ -219,7 +218,7 @@ module _ (a : ℕ) (v : List ℕ) where
     body-cut : (b : Bool) → length w < n → leb n (length (w ++ v)) ≡ b → Beside a end left (longer v)
         (and-then (tree (body kinds a Missing) w) (λ u. Err (fault Missing a)))
         (cond b (and-then (tree (body kinds (place end (drop n (w ++ v))) Fill) (take n (w ++ v))) (λ u. Ok (drop n (w ++ v))))
-            (and-then (tree (body kinds end Missing) (w ++ v)) (λ u. Err (fault Missing end))))
+        (and-then (tree (body kinds end Missing) (w ++ v)) (λ u. Err (fault Missing end))))
     body-cut true over e =
         let fit : n ≤ length (w ++ v) = leb-true n (length (w ++ v)) e in
         let long = length-append w v in
@@ -227,7 +226,7 @@ module _ (a : ℕ) (v : List ℕ) where
         let left-over : length (take (n - length w) v) ≡ n - length w = length-take-le (n - length w) v (omega arith) in
         let far : place end (drop n (w ++ v)) ≡ a + length (take (n - length w) v) = omega arith in
         rw (far, take-over n w v (omega arith))
-            (cut-beside kinds (take (n - length w) v) Fill (Ok (drop n (w ++ v))) (omega arith) w)
+        (cut-beside kinds (take (n - length w) v) Fill (Ok (drop n (w ++ v))) (omega arith) w)
     body-cut false over e = cut-beside kinds v Missing (Err (fault Missing end)) (omega arith) w
 
     body-beside : Beside a end left (longer v) (bodyAt a kinds n w) (bodyAt end kinds n (w ++ v))
@@ -235,13 +234,13 @@ module _ (a : ℕ) (v : List ℕ) where
       where
         go : (b : Bool) → leb n (length w) ≡ b → Beside a end left (longer v)
             (cond b (and-then (tree (body kinds (place a (drop n w)) Fill) (take n w)) (λ u. Ok (drop n w)))
-                (and-then (tree (body kinds a Missing) w) (λ u. Err (fault Missing a))))
+            (and-then (tree (body kinds a Missing) w) (λ u. Err (fault Missing a))))
             (bodyAt end kinds n (w ++ v))
         go true e =
             let fit : n ≤ length w = leb-true n (length w) e in
             let long : n ≤ length (w ++ v) = simp length-append (omega arith) in
             rw (le-leb n (length (w ++ v)) long, take-append-le n w v fit, drop-append-le n w v fit, place-same a v (drop n w))
-                (whole-beside (tree (body kinds (place a (drop n w)) Fill) (take n w)))
+            (whole-beside (tree (body kinds (place a (drop n w)) Fill) (take n w)))
         go false e = body-cut (leb n (length (w ++ v))) (leb-false n (length w) e) refl
 
   pub rule-beside : (kinds : List Kind) (w : List ℕ) → Beside a end left (longer v) (ruleOf a kinds w) (ruleOf end kinds (w ++ v))

@@ -33,7 +33,6 @@ mark-of b c = go (eqb b 82) (eqb c 71) (eqb c 76) (eqb b 83) (eqb c 69) refl ref
 
 -- A row of records, of whichever sort: `on` follows its mark, which may be banned here, and `step` reads one record.
 module _ {S : Type 0} (on : Opening → (List ℕ → Read S) → Read S → Read S) (banned : Bool) (step : ℕ → S → List ℕ → Read S) where
-
   abbrev pub banned-or : ℕ → List ℕ → Read S → Read S
   banned-or end s r = cond banned (Err (fault Order (place end s))) r
 
@@ -45,10 +44,9 @@ module _ {S : Type 0} (on : Opening → (List ℕ → Read S) → Read S → Rea
   -- At any two bytes `on` sees its mark or does not, whatever is behind them; at less it does not.
   module _
       (sees : (b c : ℕ) → ((s : List ℕ) (f : List ℕ → Read S) (r : Read S) → on (marked b c s) f r ≡ f s)
-          ⊎ ((s : List ℕ) (f : List ℕ → Read S) (r : Read S) → on (marked b c s) f r ≡ r))
+      ⊎ ((s : List ℕ) (f : List ℕ → Read S) (r : Read S) → on (marked b c s) f r ≡ r))
       (sees-no-cut : (f : List ℕ → Read S) (r : Read S) → on cut f r ≡ r)
       (step-beyond : (end : ℕ) (x : S) (s : List ℕ) → Beyond behind end s (step end x s)) where
-
     banned-beyond : (end : ℕ) (s m : List ℕ) (t : Bool) (r : Read S) → length m ≤ length s → Beyond behind end m r →
         Beyond behind end s (cond t (Err (fault Order (place end s))) r)
     banned-beyond end s m true r le h = omega arith
@@ -75,23 +73,22 @@ module _ {S : Type 0} (on : Opening → (List ℕ → Read S) → Read S → Rea
             Beyond behind end (b ∷ (c ∷ s)) (row (suc n) end x (b ∷ (c ∷ s)))
         go inner (inl e) =
             rw e (banned-beyond end (b ∷ (c ∷ s)) s banned _ (omega arith)
-                (beyond-then behind behind end s (step end x s) _ (step-beyond end x s) (λ y. inner (y .0) (y .1))))
+            (beyond-then behind behind end s (step end x s) _ (step-beyond end x s) (λ y. inner (y .0) (y .1))))
         go inner (inr e) = rw e (omega arith)
 
     module _ (a : ℕ) (v : List ℕ)
         (step-beside : (x : S) (w : List ℕ) → Beside a (a + length v) behind (further v) (step a x w) (step (a + length v) x (w ++ v))) where
-
       -- Less than a mark is left of the first bytes.
       cut-row : (n : ℕ) (x : S) (w : List ℕ) → length w < 2 →
           Beside a (a + length v) behind (further v) (row n a x w) (row n (a + length v) x (w ++ v))
       cut-row n x w less =
           past (late-on left behind a a w (row n a x w) (omega arith) (row-beyond n a x w))
-              (late-on left behind a (a + length v) (w ++ v) (row n (a + length v) x (w ++ v)) (simp length-append (omega arith))
-                  (row-beyond n (a + length v) x (w ++ v)))
+          (late-on left behind a (a + length v) (w ++ v) (row n (a + length v) x (w ++ v)) (simp length-append (omega arith))
+          (row-beyond n (a + length v) x (w ++ v)))
 
       banned-beside : (w : List ℕ) (t : Bool) (r₀ r : Read S) → Beside a (a + length v) behind (further v) r₀ r →
           Beside a (a + length v) behind (further v)
-              (cond t (Err (fault Order (place a w))) r₀) (cond t (Err (fault Order (place (a + length v) (w ++ v)))) r)
+          (cond t (Err (fault Order (place a w))) r₀) (cond t (Err (fault Order (place (a + length v) (w ++ v)))) r)
       banned-beside w true r₀ r h =
           fails (fault Order (place a w)) refl (ap (λ (p : ℕ). Err (fault Order p)) (place-same a v w))
       banned-beside w false r₀ r h = h
@@ -108,7 +105,7 @@ module _ {S : Type 0} (on : Opening → (List ℕ → Read S) → Read S → Rea
               Beside a (a + length v) behind (further v) (row zero a x (b ∷ (c ∷ w))) (row zero (a + length v) x (b ∷ (c ∷ (w ++ v))))
           go (inl e) =
               rw (e w, e (w ++ v)) (banned-beside (b ∷ (c ∷ w)) banned _ _
-                  (fails (fault Count (place a (b ∷ (c ∷ w)))) refl (ap (λ (p : ℕ). Err (fault Count p)) (place-same a v (b ∷ (c ∷ w))))))
+              (fails (fault Count (place a (b ∷ (c ∷ w)))) refl (ap (λ (p : ℕ). Err (fault Count p)) (place-same a v (b ∷ (c ∷ w))))))
           go (inr e) = rw (e w, e (w ++ v)) (stays (x, b ∷ (c ∷ w)) refl refl)
       row-beside (suc n) x [] = cut-row (suc n) x [] (omega arith)
       row-beside (suc n) x (b ∷ []) = cut-row (suc n) x (b ∷ []) (omega arith)
@@ -120,7 +117,7 @@ module _ {S : Type 0} (on : Opening → (List ℕ → Read S) → Read S → Rea
               Beside a (a + length v) behind (further v) (row (suc n) a x (b ∷ (c ∷ w))) (row (suc n) (a + length v) x (b ∷ (c ∷ (w ++ v))))
           go inner (inl e) =
               rw (e w, e (w ++ v)) (banned-beside (b ∷ (c ∷ w)) banned _ _
-                  (then-beside a (a + length v) behind (further v) behind (further v) (step a x w) (step (a + length v) x (w ++ v)) _ _
-                      (step-beside x w) (λ y. inner (y .0) (y .1))
-                      (λ y. row-beyond n a (y .0) (y .1)) (λ y. row-beyond n (a + length v) (y .0) (y .1))))
+              (then-beside a (a + length v) behind (further v) behind (further v) (step a x w) (step (a + length v) x (w ++ v)) _ _
+              (step-beside x w) (λ y. inner (y .0) (y .1))
+              (λ y. row-beyond n a (y .0) (y .1)) (λ y. row-beyond n (a + length v) (y .0) (y .1))))
           go inner (inr e) = rw (e w, e (w ++ v)) (stays (x, b ∷ (c ∷ w)) refl refl)

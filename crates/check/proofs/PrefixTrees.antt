@@ -44,7 +44,6 @@ skip zero t s = Ok s
 skip (suc n) t s = and-then (byteOf t s) (λ b. skip n t (b .1))
 
 module _ (kinds : List Kind) (end : ℕ) (q : Refusal) where
-
   abbrev t : Body
   t = body kinds end q
 
@@ -55,7 +54,6 @@ module _ (kinds : List Kind) (end : ℕ) (q : Refusal) where
 
   module _ (d : ℕ) (inner : (l : ℕ) (scope : List Kind) (want : Kind) (s : List ℕ) → Beyond left end s (expression d t l scope want s))
       (l : ℕ) (scope : List Kind) (want : Kind) (from : List ℕ) where
-
     value-parts-beyond : (n : ValueNode) (s : List ℕ) → length s ≤ length from →
         Beyond left end from (valueParts t (expression d t) l scope want from n s)
     value-parts-beyond ValueNode.Register s le =
@@ -66,21 +64,21 @@ module _ (kinds : List Kind) (end : ℕ) (q : Refusal) where
         weaken left left end from s _ le (one-beyond (wanted-one kinds scope want) end q s)
     value-parts-beyond ValueNode.Operator s le =
         weaken left left end from s _ le
-            (and-beyond behind end s (operatorAt t want s) _ (one-beyond (operator-one kinds want) end q s) (λ o.
-            and-beyond left end (o .1) (expression d t l scope (o .0 .takes) (o .1)) _ (inner l scope (o .0 .takes) (o .1)) (λ m.
-            inner l scope (o .0 .takes) m)))
+        (and-beyond behind end s (operatorAt t want s) _ (one-beyond (operator-one kinds want) end q s) (λ o.
+        and-beyond left end (o .1) (expression d t l scope (o .0 .takes) (o .1)) _ (inner l scope (o .0 .takes) (o .1)) (λ m.
+        inner l scope (o .0 .takes) m)))
     value-parts-beyond ValueNode.Choice s le =
         weaken left left end from s _ le
-            (and-beyond left end s (expression d t l scope Truth s) _ (inner l scope Truth s) (λ c.
-            and-beyond left end c (expression d t l scope want c) _ (inner l scope want c) (λ m. inner l scope want m)))
+        (and-beyond left end s (expression d t l scope Truth s) _ (inner l scope Truth s) (λ c.
+        and-beyond left end c (expression d t l scope want c) _ (inner l scope want c) (λ m. inner l scope want m)))
     value-parts-beyond ValueNode.Guard s le =
         weaken left left end from s _ le
-            (and-beyond left end s (expression d t l scope want s) _ (inner l scope want s) (λ m. inner l scope Truth m))
+        (and-beyond left end s (expression d t l scope want s) _ (inner l scope want s) (λ m. inner l scope Truth m))
     value-parts-beyond ValueNode.Let s le =
         unless-beyond end from s (eqb l 0) _ le
-            (and-beyond behind end s (kindAt t s) _ (one-beyond (kind-one kinds) end q s) (λ k.
-            and-beyond left end (k .1) (expression d t (l - 1) scope (k .0) (k .1)) _ (inner (l - 1) scope (k .0) (k .1)) (λ m.
-            inner (l - 1) (scope ++ (k .0 ∷ [])) want m)))
+        (and-beyond behind end s (kindAt t s) _ (one-beyond (kind-one kinds) end q s) (λ k.
+        and-beyond left end (k .1) (expression d t (l - 1) scope (k .0) (k .1)) _ (inner (l - 1) scope (k .0) (k .1)) (λ m.
+        inner (l - 1) (scope ++ (k .0 ∷ [])) want m)))
 
   pub expression-beyond : (d l : ℕ) (scope : List Kind) (want : Kind) (s : List ℕ) → Beyond left end s (expression d t l scope want s)
   unfolding expression
@@ -88,34 +86,33 @@ module _ (kinds : List Kind) (end : ℕ) (q : Refusal) where
       from-beyond behind end s (valueAt t want s) _ (one-beyond (value-one kinds want) end q s) (λ n le. omega arith)
   expression-beyond (suc d) l scope want s =
       from-beyond behind end s (valueAt t want s) _ (one-beyond (value-one kinds want) end q s) (λ n le.
-          value-parts-beyond d (expression-beyond d) l scope want s (n .0) (n .1) le)
+      value-parts-beyond d (expression-beyond d) l scope want s (n .0) (n .1) le)
 
   module _ (d : ℕ) (inner : (l f : ℕ) (scope : List Kind) (s : List ℕ) → Beyond left end s (action d t l f scope s))
       (l f : ℕ) (scope : List Kind) (from : List ℕ) where
-
     action-parts-beyond : (n : ActionNode) (s : List ℕ) → length s ≤ length from →
         Beyond left end from (actionParts t (expression d t) (action d t) l f scope from n s)
     action-parts-beyond ActionNode.Assign s le =
         weaken left left end from s _ le
-            (and-beyond behind end s (namedOf t kinds s) _ (one-beyond (named-one kinds kinds) end q s) (λ k.
-            expression-beyond d l scope (k .0) (k .1)))
+        (and-beyond behind end s (namedOf t kinds s) _ (one-beyond (named-one kinds kinds) end q s) (λ k.
+        expression-beyond d l scope (k .0) (k .1)))
     action-parts-beyond ActionNode.If s le =
         weaken left left end from s _ le
-            (and-beyond left end s (expression d t l scope Truth s) _ (expression-beyond d l scope Truth s) (λ m. inner l f scope m))
+        (and-beyond left end s (expression d t l scope Truth s) _ (expression-beyond d l scope Truth s) (λ m. inner l f scope m))
     action-parts-beyond ActionNode.Parallel s le =
         unless-beyond end from s (eqb f 0) _ le
-            (and-beyond left end s (action d t l (f - 1) scope s) _ (inner l (f - 1) scope s) (λ m. inner l (f - 1) scope m))
+        (and-beyond left end s (action d t l (f - 1) scope s) _ (inner l (f - 1) scope s) (λ m. inner l (f - 1) scope m))
     action-parts-beyond ActionNode.Sequence s le =
         weaken left left end from s _ le
-            (and-beyond left end s (action d t l f scope s) _ (inner l f scope s) (λ m. inner l f scope m))
+        (and-beyond left end s (action d t l f scope s) _ (inner l f scope s) (λ m. inner l f scope m))
     action-parts-beyond ActionNode.When s le =
         weaken left left end from s _ le
-            (and-beyond left end s (action d t l f scope s) _ (inner l f scope s) (λ m. expression-beyond d l scope Truth m))
+        (and-beyond left end s (action d t l f scope s) _ (inner l f scope s) (λ m. expression-beyond d l scope Truth m))
     action-parts-beyond ActionNode.Let s le =
         unless-beyond end from s (eqb l 0) _ le
-            (and-beyond behind end s (kindAt t s) _ (one-beyond (kind-one kinds) end q s) (λ k.
-            and-beyond left end (k .1) (expression d t (l - 1) scope (k .0) (k .1)) _ (expression-beyond d (l - 1) scope (k .0) (k .1)) (λ m.
-            inner (l - 1) f (scope ++ (k .0 ∷ [])) m)))
+        (and-beyond behind end s (kindAt t s) _ (one-beyond (kind-one kinds) end q s) (λ k.
+        and-beyond left end (k .1) (expression d t (l - 1) scope (k .0) (k .1)) _ (expression-beyond d (l - 1) scope (k .0) (k .1)) (λ m.
+        inner (l - 1) f (scope ++ (k .0 ∷ [])) m)))
     action-parts-beyond ActionNode.Local s le = unless-beyond end from s (eqb f 0) _ le (inner l (f - 1) scope s)
 
   pub action-beyond : (d l f : ℕ) (scope : List Kind) (s : List ℕ) → Beyond left end s (action d t l f scope s)
@@ -124,11 +121,10 @@ module _ (kinds : List Kind) (end : ℕ) (q : Refusal) where
       from-beyond behind end s (actionAt t s) _ (one-beyond (action-one kinds) end q s) (λ n le. omega arith)
   action-beyond (suc d) l f scope s =
       from-beyond behind end s (actionAt t s) _ (one-beyond (action-one kinds) end q s) (λ n le.
-          action-parts-beyond d (action-beyond d) l f scope s (n .0) (n .1) le)
+      action-parts-beyond d (action-beyond d) l f scope s (n .0) (n .1) le)
 
 -- The first bytes, which end at `a`, and the whole text, which has v behind them.
 module _ (kinds : List Kind) (a : ℕ) (v : List ℕ) (q₀ q : Refusal) where
-
   abbrev end : ℕ
   end = a + length v
 
@@ -157,18 +153,20 @@ module _ (kinds : List Kind) (a : ℕ) (v : List ℕ) (q₀ q : Refusal) where
 
   both-then : {F₀ F G₀ G : List ℕ → Passed} → Both F₀ F → Both G₀ G → Both (λ s. and-then (F₀ s) G₀) (λ s. and-then (F s) G)
   both-then {F₀} {F} {G₀} {G} f g = record {
-      side = λ w. then-beside a end left (longer v) left (longer v) (F₀ w) (F (w ++ v)) G₀ G (f .side w) (g .side) (g .low) (g .high);
-      low = λ s. and-beyond left a s (F₀ s) G₀ (f .low s) (g .low);
-      high = λ s. and-beyond left end s (F s) G (f .high s) (g .high) }
+    side = λ w. then-beside a end left (longer v) left (longer v) (F₀ w) (F (w ++ v)) G₀ G (f .side w) (g .side) (g .low) (g .high);
+    low = λ s. and-beyond left a s (F₀ s) G₀ (f .low s) (g .low);
+    high = λ s. and-beyond left end s (F s) G (f .high s) (g .high);
+  }
 
   value-then : {X : Type 0} {L : ℕ → Refusal → List ℕ → Read X} {G₀ G : X → List ℕ → Passed} → One-byte behind further L →
       ((x : X) → Both (G₀ x) (G x)) →
       Both (λ s. and-then (L a q₀ s) (λ y. G₀ (y .0) (y .1))) (λ s. and-then (L end q s) (λ y. G (y .0) (y .1)))
   value-then {X} {L} {G₀} {G} o g = record {
-      side = λ w. then-beside a end behind (further v) left (longer v) (L a q₀ w) (L end q (w ++ v)) (λ y. G₀ (y .0) (y .1)) (λ y. G (y .0) (y .1))
-          (one-beside o a v q₀ q w) (λ y. g (y .0) .side (y .1)) (λ y. g (y .0) .low (y .1)) (λ y. g (y .0) .high (y .1));
-      low = λ s. and-beyond behind a s (L a q₀ s) (λ y. G₀ (y .0) (y .1)) (one-beyond o a q₀ s) (λ y. g (y .0) .low (y .1));
-      high = λ s. and-beyond behind end s (L end q s) (λ y. G (y .0) (y .1)) (one-beyond o end q s) (λ y. g (y .0) .high (y .1)) }
+    side = λ w. then-beside a end behind (further v) left (longer v) (L a q₀ w) (L end q (w ++ v)) (λ y. G₀ (y .0) (y .1)) (λ y. G (y .0) (y .1))
+        (one-beside o a v q₀ q w) (λ y. g (y .0) .side (y .1)) (λ y. g (y .0) .low (y .1)) (λ y. g (y .0) .high (y .1));
+    low = λ s. and-beyond behind a s (L a q₀ s) (λ y. G₀ (y .0) (y .1)) (one-beyond o a q₀ s) (λ y. g (y .0) .low (y .1));
+    high = λ s. and-beyond behind end s (L end q s) (λ y. G (y .0) (y .1)) (one-beyond o end q s) (λ y. g (y .0) .high (y .1));
+  }
 
   -- A fault at the beginning in both, or what follows in both.
   unless-side : (from : List ℕ) (b : Bool) (r₀ r : Passed) → Side r₀ r →
@@ -184,7 +182,6 @@ module _ (kinds : List Kind) (a : ℕ) (v : List ℕ) (q₀ q : Refusal) where
   module _ (d : ℕ)
       (inner : (l : ℕ) (scope : List Kind) (want : Kind) → Both (expression d t₀ l scope want) (expression d t₁ l scope want))
       (l : ℕ) (scope : List Kind) (want : Kind) (from : List ℕ) where
-
     value-parts-side : (n : ValueNode) (w : List ℕ) →
         Side (valueParts t₀ (expression d t₀) l scope want from n w) (valueParts t₁ (expression d t₁) l scope want (from ++ v) n (w ++ v))
     value-parts-side ValueNode.Register w = one-both (wanted-one kinds kinds want) .side w
@@ -198,34 +195,37 @@ module _ (kinds : List Kind) (a : ℕ) (v : List ℕ) (q₀ q : Refusal) where
     value-parts-side ValueNode.Guard w = both-then (inner l scope want) (inner l scope Truth) .side w
     value-parts-side ValueNode.Let w =
         unless-side from (eqb l 0) _ _
-            (value-then (kind-one kinds) (λ k. both-then (inner (l - 1) scope k) (inner (l - 1) (scope ++ (k ∷ [])) want)) .side w)
+        (value-then (kind-one kinds) (λ k. both-then (inner (l - 1) scope k) (inner (l - 1) (scope ++ (k ∷ [])) want)) .side w)
 
   expression-both : (d l : ℕ) (scope : List Kind) (want : Kind) → Both (expression d t₀ l scope want) (expression d t₁ l scope want)
   unfolding expression
   expression-both zero l scope want = record {
-      side = elim [
-          [] ↦ nothing-left _ _ (expression-beyond kinds a q₀ zero l scope want []) (expression-beyond kinds end q zero l scope want v)
-        | c ∷ w ↦ then-same a end (further v) left (longer v) (valueAt t₀ want (c ∷ w)) (valueAt t₁ want (c ∷ (w ++ v))) _ _
-            (one-same (value-one kinds want) a v q₀ q c w)
-            (λ n. fails (fault Nesting (place a (c ∷ w))) refl (ap (λ (p : ℕ). Err (fault Nesting p)) (place-same a v (c ∷ w)))) ];
-      low = expression-beyond kinds a q₀ zero l scope want;
-      high = expression-beyond kinds end q zero l scope want }
+    side = elim [
+      | [] ↦ nothing-left _ _ (expression-beyond kinds a q₀ zero l scope want []) (expression-beyond kinds end q zero l scope want v)
+      | c ∷ w ↦ then-same a end (further v) left (longer v) (valueAt t₀ want (c ∷ w)) (valueAt t₁ want (c ∷ (w ++ v))) _ _
+          (one-same (value-one kinds want) a v q₀ q c w)
+          (λ n. fails (fault Nesting (place a (c ∷ w))) refl (ap (λ (p : ℕ). Err (fault Nesting p)) (place-same a v (c ∷ w))))
+    ];
+    low = expression-beyond kinds a q₀ zero l scope want;
+    high = expression-beyond kinds end q zero l scope want;
+  }
   expression-both (suc d) l scope want = record {
-      side = elim [
-          [] ↦ nothing-left _ _ (expression-beyond kinds a q₀ (suc d) l scope want []) (expression-beyond kinds end q (suc d) l scope want v)
-        | c ∷ w ↦ then-same a end (further v) left (longer v) (valueAt t₀ want (c ∷ w)) (valueAt t₁ want (c ∷ (w ++ v))) _ _
-            (one-same (value-one kinds want) a v q₀ q c w)
-            (λ n. value-parts-side d (expression-both d) l scope want (c ∷ w) (n .0) (n .1)) ];
-      low = expression-beyond kinds a q₀ (suc d) l scope want;
-      high = expression-beyond kinds end q (suc d) l scope want }
+    side = elim [
+      | [] ↦ nothing-left _ _ (expression-beyond kinds a q₀ (suc d) l scope want []) (expression-beyond kinds end q (suc d) l scope want v)
+      | c ∷ w ↦ then-same a end (further v) left (longer v) (valueAt t₀ want (c ∷ w)) (valueAt t₁ want (c ∷ (w ++ v))) _ _
+          (one-same (value-one kinds want) a v q₀ q c w)
+          (λ n. value-parts-side d (expression-both d) l scope want (c ∷ w) (n .0) (n .1))
+    ];
+    low = expression-beyond kinds a q₀ (suc d) l scope want;
+    high = expression-beyond kinds end q (suc d) l scope want;
+  }
 
   module _ (d : ℕ)
       (inner : (l f : ℕ) (scope : List Kind) → Both (action d t₀ l f scope) (action d t₁ l f scope))
       (l f : ℕ) (scope : List Kind) (from : List ℕ) where
-
     action-parts-side : (n : ActionNode) (w : List ℕ) →
         Side (actionParts t₀ (expression d t₀) (action d t₀) l f scope from n w)
-            (actionParts t₁ (expression d t₁) (action d t₁) l f scope (from ++ v) n (w ++ v))
+        (actionParts t₁ (expression d t₁) (action d t₁) l f scope (from ++ v) n (w ++ v))
     action-parts-side ActionNode.Assign w = value-then (named-one kinds kinds) (λ k. expression-both d l scope k) .side w
     action-parts-side ActionNode.If w = both-then (expression-both d l scope Truth) (inner l f scope) .side w
     action-parts-side ActionNode.Parallel w =
@@ -234,27 +234,31 @@ module _ (kinds : List Kind) (a : ℕ) (v : List ℕ) (q₀ q : Refusal) where
     action-parts-side ActionNode.When w = both-then (inner l f scope) (expression-both d l scope Truth) .side w
     action-parts-side ActionNode.Let w =
         unless-side from (eqb l 0) _ _
-            (value-then (kind-one kinds) (λ k. both-then (expression-both d (l - 1) scope k) (inner (l - 1) f (scope ++ (k ∷ [])))) .side w)
+        (value-then (kind-one kinds) (λ k. both-then (expression-both d (l - 1) scope k) (inner (l - 1) f (scope ++ (k ∷ [])))) .side w)
     action-parts-side ActionNode.Local w = unless-side from (eqb f 0) _ _ (inner l (f - 1) scope .side w)
 
   action-both : (d l f : ℕ) (scope : List Kind) → Both (action d t₀ l f scope) (action d t₁ l f scope)
   unfolding action
   action-both zero l f scope = record {
-      side = elim [
-          [] ↦ nothing-left _ _ (action-beyond kinds a q₀ zero l f scope []) (action-beyond kinds end q zero l f scope v)
-        | c ∷ w ↦ then-same a end (further v) left (longer v) (actionAt t₀ (c ∷ w)) (actionAt t₁ (c ∷ (w ++ v))) _ _
-            (one-same (action-one kinds) a v q₀ q c w)
-            (λ n. fails (fault Nesting (place a (c ∷ w))) refl (ap (λ (p : ℕ). Err (fault Nesting p)) (place-same a v (c ∷ w)))) ];
-      low = action-beyond kinds a q₀ zero l f scope;
-      high = action-beyond kinds end q zero l f scope }
+    side = elim [
+      | [] ↦ nothing-left _ _ (action-beyond kinds a q₀ zero l f scope []) (action-beyond kinds end q zero l f scope v)
+      | c ∷ w ↦ then-same a end (further v) left (longer v) (actionAt t₀ (c ∷ w)) (actionAt t₁ (c ∷ (w ++ v))) _ _
+          (one-same (action-one kinds) a v q₀ q c w)
+          (λ n. fails (fault Nesting (place a (c ∷ w))) refl (ap (λ (p : ℕ). Err (fault Nesting p)) (place-same a v (c ∷ w))))
+    ];
+    low = action-beyond kinds a q₀ zero l f scope;
+    high = action-beyond kinds end q zero l f scope;
+  }
   action-both (suc d) l f scope = record {
-      side = elim [
-          [] ↦ nothing-left _ _ (action-beyond kinds a q₀ (suc d) l f scope []) (action-beyond kinds end q (suc d) l f scope v)
-        | c ∷ w ↦ then-same a end (further v) left (longer v) (actionAt t₀ (c ∷ w)) (actionAt t₁ (c ∷ (w ++ v))) _ _
-            (one-same (action-one kinds) a v q₀ q c w)
-            (λ n. action-parts-side d (action-both d) l f scope (c ∷ w) (n .0) (n .1)) ];
-      low = action-beyond kinds a q₀ (suc d) l f scope;
-      high = action-beyond kinds end q (suc d) l f scope }
+    side = elim [
+      | [] ↦ nothing-left _ _ (action-beyond kinds a q₀ (suc d) l f scope []) (action-beyond kinds end q (suc d) l f scope v)
+      | c ∷ w ↦ then-same a end (further v) left (longer v) (actionAt t₀ (c ∷ w)) (actionAt t₁ (c ∷ (w ++ v))) _ _
+          (one-same (action-one kinds) a v q₀ q c w)
+          (λ n. action-parts-side d (action-both d) l f scope (c ∷ w) (n .0) (n .1))
+    ];
+    low = action-beyond kinds a q₀ (suc d) l f scope;
+    high = action-beyond kinds end q (suc d) l f scope;
+  }
 
   pub action-beside : (w : List ℕ) → Side (action 24 t₀ 8 8 [] w) (action 24 t₁ 8 8 [] (w ++ v))
   action-beside w = action-both 24 8 8 [] .side w

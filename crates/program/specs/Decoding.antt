@@ -39,7 +39,7 @@ value-of part ValueNode.Choice s =
 value-of part ValueNode.Guard s = and-some (part s) (λ a. and-some (part (a .1)) (λ c. Some (Guard (a .0) (c .0), c .1)))
 value-of part ValueNode.Let s =
     and-some (one s) (λ y. and-some (kindOf (y .0)) (λ k. and-some (part (y .1)) (λ a. and-some (part (a .1)) (λ b.
-        Some (Let k (a .0) (b .0), b .1)))))
+    Some (Let k (a .0) (b .0), b .1)))))
 
 -- An expression and an action of at most so many levels.
 unfoldable pub expr-of : ℕ → Decoder Expr
@@ -54,7 +54,7 @@ act-of value part ActionNode.Sequence s = and-some (part s) (λ a. and-some (par
 act-of value part ActionNode.When s = and-some (part s) (λ a. and-some (value (a .1)) (λ c. Some (When (a .0) (c .0), c .1)))
 act-of value part ActionNode.Let s =
     and-some (one s) (λ y. and-some (kindOf (y .0)) (λ k. and-some (value (y .1)) (λ e. and-some (part (e .1)) (λ a.
-        Some (LetIn k (e .0) (a .0), a .1)))))
+    Some (LetIn k (e .0) (a .0), a .1)))))
 act-of value part ActionNode.Local s = and-some (part s) (λ a. Some (Local (a .0), a .1))
 
 unfoldable pub action-of : ℕ → Decoder Action
@@ -65,9 +65,9 @@ action-of (suc d) s = and-some (one s) (λ b. and-some (actionNode (b .0)) (λ n
 abbrev pub register-of : Decoder Register
 register-of s =
     onRegister (openingOf s)
-        (λ f. and-some (one f) (λ y. and-some (kindOf (y .0)) (λ k. and-some (fourOf (y .1)) (λ v.
-            Some (record { kind = k; initial = v .0 }, v .1)))))
-        None
+    (λ f. and-some (one f) (λ y. and-some (kindOf (y .0)) (λ k. and-some (fourOf (y .1)) (λ v.
+    Some (record { kind = k; initial = v .0 }, v .1)))))
+    None
 
 abbrev pub rule-of : Decoder Action
 rule-of s = onRule (openingOf s) (λ f. and-some (one f) (λ h. and-some (one (h .1)) (λ l. action-of 24 (l .1)))) None
@@ -75,8 +75,8 @@ rule-of s = onRule (openingOf s) (λ f. and-some (one f) (λ h. and-some (one (h
 abbrev pub entry-of : Decoder Entry
 entry-of s =
     onEntry (openingOf s)
-        (λ f. and-some (one f) (λ r. and-some (fourOf (r .1)) (λ m. Some (record { rule = r .0; blockers = m .0 }, m .1))))
-        None
+    (λ f. and-some (one f) (λ r. and-some (fourOf (r .1)) (λ m. Some (record { rule = r .0; blockers = m .0 }, m .1))))
+    None
 
 -- A row of at most n of them, and what is behind it.
 abbrev pub add : {A : Type 0} → A → List A × List ℕ → List A × List ℕ

@@ -19,11 +19,9 @@ use Rattle.program.specs.declared.node.ValueNode.{ValueNode}
 use Rattle.program.specs.declared.node.ValueNode
 use Rattle.program.specs.declared.node.ActionNode.{ActionNode}
 use Rattle.program.specs.declared.node.ActionNode
+pub use Rattle.program.specs.Refusals.{fault}
 use Rattle.program.specs.Kinds.{kindOf, same, operatorOf}
 use Rattle.program.specs.Nodes.{valueNode, actionNode}
-
-abbrev pub fault : Refusal → ℕ → Fault
-fault q p = record { refusal = q; place = p }
 
 abbrev pub and-then : {A B : Type 0} → Result A Fault → (A → Result B Fault) → Result B Fault
 and-then (Ok x) f = f x

@@ -1,7 +1,11 @@
 -- The check's refusals. Each stands for one question that was answered no, and is shown to people by that question's number.
 use Prim.Native.Nat.{ℕ}
 use Rattle.program.specs.declared.refusal.Refusal.{Refusal}
+use Rattle.program.specs.declared.refusal.Fault.{Fault}
 use Rattle.program.specs.declared.refusal.Refusal.the-variants.{Length, Missing, Order, Count, Sort, Name, Nesting, Fill}
+
+abbrev pub fault : Refusal → ℕ → Fault
+fault q p = record { refusal = q; place = p }
 
 abbrev pub number : Refusal → ℕ
 number Length = 1

@@ -35,7 +35,7 @@ pub struct Counts {
 
 /// A program whose records are being read.
 #[derive(Drop)]
-pub struct Records<'a> {
+struct Records<'a> {
     /// The bytes that are left.
     rest: &'a [u8],
     /// The place behind the last of them.
@@ -43,14 +43,11 @@ pub struct Records<'a> {
 }
 
 impl Records<'_> {
-    /// A fault at the next byte.
-    fn fault(&self, refusal: Refusal) -> Fault
-        ensures { λ r. ⌜ r ≡ record { refusal = refusal; place = place (now (self .entry) .end) (now (now (self .entry) .rest)) } ⌝ }
+    /// The place of the next byte.
+    fn place(&self) -> usize
+        ensures { λ r. ⌜ r ≡ place (now (self .entry) .end) (now (now (self .entry) .rest)) ⌝ }
     {
-        Fault {
-            refusal,
-            place: self.end.saturating_sub(self.rest.len()),
-        }
+        self.end.saturating_sub(self.rest.len())
     }
 
     /// Reads the registers, and notes the kind of each.
@@ -62,7 +59,7 @@ impl Records<'_> {
         let mut count = 0;
         while let Opening::Register(fields) = opens(self.rest) {
             if count >= kinds.len() {
-                return Err(self.fault(Refusal::Count));
+                return Err(Refusal::Count.at(self.place()));
             }
             let (kind, rest) = register(fields, self.end)?;
             kinds[count] = kind;
@@ -81,10 +78,10 @@ impl Records<'_> {
         let mut count = 0;
         while let Opening::Rule(fields) = opens(self.rest) {
             if kinds.is_empty() {
-                return Err(self.fault(Refusal::Order));
+                return Err(Refusal::Order.at(self.place()));
             }
             if count >= MAX_RULES {
-                return Err(self.fault(Refusal::Count));
+                return Err(Refusal::Count.at(self.place()));
             }
             self.rest = rule(fields, self.end, kinds)?;
             count += 1;
@@ -101,10 +98,10 @@ impl Records<'_> {
         let mut count = 0;
         while let Opening::Entry(fields) = opens(self.rest) {
             if rules == 0 {
-                return Err(self.fault(Refusal::Order));
+                return Err(Refusal::Order.at(self.place()));
             }
             if count >= MAX_ENTRIES {
-                return Err(self.fault(Refusal::Count));
+                return Err(Refusal::Count.at(self.place()));
             }
             self.rest = entry(fields, self.end, rules)?;
             count += 1;
@@ -118,11 +115,8 @@ impl Records<'_> {
     {
         match self.rest {
             [] if entries > 0 => Ok(()),
-            [_, _, ..] => Err(self.fault(Refusal::Order)),
-            _ => Err(Fault {
-                refusal: Refusal::Missing,
-                place: self.end,
-            }),
+            [_, _, ..] => Err(Refusal::Order.at(self.place())),
+            _ => Err(Refusal::Missing.at(self.end)),
         }
     }
 }
@@ -132,10 +126,7 @@ pub fn examine(program: &[u8]) -> Result<Counts, Fault>
     ensures { λ r. ⌜ r ≡ verdict (now (program .entry)) ⌝ }
 {
     if program.len() > MAX_BYTES {
-        return Err(Fault {
-            refusal: Refusal::Length,
-            place: 0,
-        });
+        return Err(Refusal::Length.at(0));
     }
     let mut kinds = [Kind::Truth; MAX_REGISTERS];
     let mut records = Records {

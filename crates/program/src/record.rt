@@ -12,7 +12,7 @@ use crate::tree::read_body;
 
 /// What stands where a record may begin: a mark, with the bytes behind it, or none.
 #[derive(Clone, Copy)]
-pub enum Opening<'a> {
+pub(crate) enum Opening<'a> {
     Register(&'a [u8]),
     Rule(&'a [u8]),
     Entry(&'a [u8]),
@@ -20,7 +20,7 @@ pub enum Opening<'a> {
     Cut,
 }
 
-pub fn opens(bytes: &[u8]) -> Opening<'_>
+pub(crate) fn opens(bytes: &[u8]) -> Opening<'_>
     ensures { λ r. ⌜ seen r ≡ openingOf (now (bytes .entry)) ⌝ }
 {
     match bytes {
@@ -43,43 +43,28 @@ fn four(bytes: &[u8]) -> Option<(u32, &[u8])>
 }
 
 /// A register's record behind its mark, in a program that ends at `end`: its kind, and what is behind it.
-pub fn register(fields: &[u8], end: usize) -> Result<(Kind, &[u8]), Fault>
+pub(crate) fn register(fields: &[u8], end: usize) -> Result<(Kind, &[u8]), Fault>
     ensures { λ r. ⌜ with-rest r ≡ registerOf end (now (fields .entry)) ⌝ }
 {
     let [byte, value @ ..] = fields else {
-        return Err(Fault {
-            refusal: Refusal::Missing,
-            place: end,
-        });
+        return Err(Refusal::Missing.at(end));
     };
     let Some(kind) = Kind::from_byte(*byte) else {
-        return Err(Fault {
-            refusal: Refusal::Sort,
-            place: end.saturating_sub(fields.len()),
-        });
+        return Err(Refusal::Sort.at(end.saturating_sub(fields.len())));
     };
     match four(value) {
-        None => Err(Fault {
-            refusal: Refusal::Missing,
-            place: end,
-        }),
+        None => Err(Refusal::Missing.at(end)),
         Some((number, rest)) if kind.fits(number) => Ok((kind, rest)),
-        Some(_) => Err(Fault {
-            refusal: Refusal::Sort,
-            place: end.saturating_sub(value.len()),
-        }),
+        Some(_) => Err(Refusal::Sort.at(end.saturating_sub(value.len()))),
     }
 }
 
 /// A rule's record behind its mark, in a program that ends at `end`: what is behind it.
-pub fn rule<'a>(fields: &'a [u8], end: usize, kinds: &[Kind]) -> Result<&'a [u8], Fault>
+pub(crate) fn rule<'a>(fields: &'a [u8], end: usize, kinds: &[Kind]) -> Result<&'a [u8], Fault>
     ensures { λ r. ⌜ rest-of r ≡ ruleOf end (now (kinds .entry)) (now (fields .entry)) ⌝ }
 {
     let [high, low, bytes @ ..] = fields else {
-        return Err(Fault {
-            refusal: Refusal::Missing,
-            place: end,
-        });
+        return Err(Refusal::Missing.at(end));
     };
     let length = usize::from(u16::from_be_bytes([*high, *low]));
     if length <= bytes.len() {
@@ -93,40 +78,25 @@ pub fn rule<'a>(fields: &'a [u8], end: usize, kinds: &[Kind]) -> Result<&'a [u8]
         Ok(rest)
     } else {
         read_body(bytes, end, kinds, Refusal::Missing)?;
-        Err(Fault {
-            refusal: Refusal::Missing,
-            place: end,
-        })
+        Err(Refusal::Missing.at(end))
     }
 }
 
 /// An entry's record behind its mark, in a program of so many rules that ends at `end`: what is behind it.
-pub fn entry(fields: &[u8], end: usize, rules: usize) -> Result<&[u8], Fault>
+pub(crate) fn entry(fields: &[u8], end: usize, rules: usize) -> Result<&[u8], Fault>
     requires { ⌜ rules ≤ 32 ⌝ }
     ensures { λ r. ⌜ rest-of r ≡ entryOf end rules (now (fields .entry)) ⌝ }
 {
     let [number, mask @ ..] = fields else {
-        return Err(Fault {
-            refusal: Refusal::Missing,
-            place: end,
-        });
+        return Err(Refusal::Missing.at(end));
     };
     if usize::from(*number) >= rules {
-        return Err(Fault {
-            refusal: Refusal::Name,
-            place: end.saturating_sub(fields.len()),
-        });
+        return Err(Refusal::Name.at(end.saturating_sub(fields.len())));
     }
     match four(mask) {
-        None => Err(Fault {
-            refusal: Refusal::Missing,
-            place: end,
-        }),
+        None => Err(Refusal::Missing.at(end)),
         Some((named, rest)) if names_below(named, rules) => Ok(rest),
-        Some(_) => Err(Fault {
-            refusal: Refusal::Name,
-            place: end.saturating_sub(mask.len()),
-        }),
+        Some(_) => Err(Refusal::Name.at(end.saturating_sub(mask.len()))),
     }
 }
 

@@ -1,14 +1,14 @@
 // What is wrong with a program's bytes, and where.
 
 ghost use mathlib.Core.Path.{_≡_};
-ghost use Rattle.program.specs.Refusals.{number};
+ghost use Rattle.program.specs.Refusals.{fault, number};
 
 /// A question that the check answered no, in the order of the questions' numbers.
 #[derive(Clone, Copy, Debug, PartialEq, Eq)]
 pub enum Refusal {
     /// The program has more bytes than any program may have.
     Length,
-    /// The program ends inside a record or before its first entry.
+    /// The program ends inside a mark or a record, or before its first entry.
     Missing,
     /// A mark that may not stand where it does.
     Order,
@@ -32,6 +32,16 @@ pub struct Fault {
 }
 
 impl Refusal {
+    /// The fault of a program that is refused for this at a place.
+    pub fn at(self, place: usize) -> Fault
+        ensures { λ r. ⌜ r ≡ fault self place ⌝ }
+    {
+        Fault {
+            refusal: self,
+            place,
+        }
+    }
+
     /// The number of the question, as it is shown to people.
     pub fn number(self) -> u8
         ensures { λ r. ⌜ r ≡ number self ⌝ }

@@ -16,7 +16,7 @@ use crate::way::Way;
 
 /// A body that is being read.
 #[derive(Drop)]
-pub struct Reader<'a> {
+struct Reader<'a> {
     /// The bytes that are left.
     rest: &'a [u8],
     /// The place behind the last of them.
@@ -50,10 +50,7 @@ impl Reader<'_> {
         ensures kept { λ _. ⌜ Kept (now (self .entry)) (now (self .exit)) ⌝ }
     {
         let [first, rest @ ..] = self.rest else {
-            return Err(Fault {
-                refusal: self.short,
-                place: self.end,
-            });
+            return Err(self.short.at(self.end));
         };
         self.rest = rest;
         Ok(*first)
@@ -78,10 +75,7 @@ impl Reader<'_> {
         if self.byte()? < 2 {
             Ok(())
         } else {
-            Err(Fault {
-                refusal: Refusal::Sort,
-                place,
-            })
+            Err(Refusal::Sort.at(place))
         }
     }
 
@@ -92,10 +86,7 @@ impl Reader<'_> {
         let place = self.place();
         match Kind::from_byte(self.byte()?) {
             Some(kind) => Ok(kind),
-            None => Err(Fault {
-                refusal: Refusal::Sort,
-                place,
-            }),
+            None => Err(Refusal::Sort.at(place)),
         }
     }
 
@@ -106,10 +97,7 @@ impl Reader<'_> {
         let place = self.place();
         match Operator::from_byte(self.byte()?) {
             Some(operator) if operator.gives == want => Ok(operator),
-            _ => Err(Fault {
-                refusal: Refusal::Sort,
-                place,
-            }),
+            _ => Err(Refusal::Sort.at(place)),
         }
     }
 
@@ -120,10 +108,7 @@ impl Reader<'_> {
         let place = self.place();
         match ValueNode::from_byte(self.byte()?) {
             Some(node) if suits(want, node) => Ok(node),
-            _ => Err(Fault {
-                refusal: Refusal::Sort,
-                place,
-            }),
+            _ => Err(Refusal::Sort.at(place)),
         }
     }
 
@@ -134,10 +119,7 @@ impl Reader<'_> {
         let place = self.place();
         match ActionNode::from_byte(self.byte()?) {
             Some(node) => Ok(node),
-            None => Err(Fault {
-                refusal: Refusal::Sort,
-                place,
-            }),
+            None => Err(Refusal::Sort.at(place)),
         }
     }
 
@@ -151,10 +133,7 @@ impl Reader<'_> {
         if number < self.kinds.len() {
             Ok(self.kinds[number])
         } else {
-            Err(Fault {
-                refusal: Refusal::Name,
-                place,
-            })
+            Err(Refusal::Name.at(place))
         }
     }
 
@@ -167,10 +146,7 @@ impl Reader<'_> {
         if self.target()? == want {
             Ok(())
         } else {
-            Err(Fault {
-                refusal: Refusal::Name,
-                place,
-            })
+            Err(Refusal::Name.at(place))
         }
     }
 
@@ -183,10 +159,7 @@ impl Reader<'_> {
         let place = self.place();
         match way.kind_of(usize::from(self.byte()?)) {
             Some(kind) if kind == want => Ok(()),
-            _ => Err(Fault {
-                refusal: Refusal::Name,
-                place,
-            }),
+            _ => Err(Refusal::Name.at(place)),
         }
     }
 
@@ -271,7 +244,7 @@ impl Reader<'_> {
 }
 
 /// Reads a body, the bytes up to `end`, which one action has to fill.
-pub fn read_body<'a>(
+pub(crate) fn read_body<'a>(
     bytes: &'a [u8],
     end: usize,
     kinds: &'a [Kind],
@@ -289,9 +262,6 @@ pub fn read_body<'a>(
     if reader.rest.is_empty() {
         Ok(())
     } else {
-        Err(Fault {
-            refusal: Refusal::Fill,
-            place: reader.place(),
-        })
+        Err(Refusal::Fill.at(reader.place()))
     }
 }

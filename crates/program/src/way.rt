@@ -14,15 +14,15 @@ use crate::refusal::Fault;
 use crate::refusal::Refusal;
 
 /// No node is deeper than this, the body's action having depth 1.
-pub const MAX_DEPTH: u8 = 24;
+const MAX_DEPTH: u8 = 24;
 /// At most so many lets lie on the way to a node, itself included.
-pub const MAX_LETS: usize = 8;
+const MAX_LETS: usize = 8;
 /// At most so many parallel actions and local guards lie on the way to a node, itself included.
-pub const MAX_FORKS: u8 = 8;
+const MAX_FORKS: u8 = 8;
 
 /// What may still be nested on the way to a node, and the kinds that the lets in whose last part it lies have bound.
 #[derive(Clone, Copy)]
-pub struct Way {
+pub(crate) struct Way {
     depth: u8,
     lets: u8,
     forks: u8,
@@ -31,56 +31,47 @@ pub struct Way {
 }
 
 impl Way {
-    pub fn to_body() -> Way
+    pub(crate) fn to_body() -> Way
         ensures { λ r. ⌜ (r .depth ≡ 24) × (r .lets ≡ 8) × (r .forks ≡ 8) × (r .bound ≡ 0) × (scopeOf r ≡ []) ⌝ }
     {
         Way {
             depth: MAX_DEPTH,
-            lets: 8,
+            lets: MAX_LETS as u8,
             forks: MAX_FORKS,
             scope: [Kind::Truth; MAX_LETS],
             bound: 0,
         }
     }
 
-    pub fn deeper(self, place: usize) -> Result<Way, Fault>
+    pub(crate) fn deeper(self, place: usize) -> Result<Way, Fault>
         ensures { λ r. ⌜ r ≡ deeper self place ⌝ }
     {
         match self.depth.checked_sub(1) {
             Some(depth) => Ok(Way { depth, ..self }),
-            None => Err(Fault {
-                refusal: Refusal::Nesting,
-                place,
-            }),
+            None => Err(Refusal::Nesting.at(place)),
         }
     }
 
-    pub fn past_let(self, place: usize) -> Result<Way, Fault>
+    pub(crate) fn past_let(self, place: usize) -> Result<Way, Fault>
         ensures { λ r. ⌜ r ≡ pastLet self place ⌝ }
     {
         match self.lets.checked_sub(1) {
             Some(lets) => Ok(Way { lets, ..self }),
-            None => Err(Fault {
-                refusal: Refusal::Nesting,
-                place,
-            }),
+            None => Err(Refusal::Nesting.at(place)),
         }
     }
 
-    pub fn past_fork(self, place: usize) -> Result<Way, Fault>
+    pub(crate) fn past_fork(self, place: usize) -> Result<Way, Fault>
         ensures { λ r. ⌜ r ≡ pastFork self place ⌝ }
     {
         match self.forks.checked_sub(1) {
             Some(forks) => Ok(Way { forks, ..self }),
-            None => Err(Fault {
-                refusal: Refusal::Nesting,
-                place,
-            }),
+            None => Err(Refusal::Nesting.at(place)),
         }
     }
 
     /// The way to the last part of a let, which sees what the let has bound.
-    pub fn bind(self, kind: Kind) -> Way
+    pub(crate) fn bind(self, kind: Kind) -> Way
         requires { ⌜ self .bound < 8 ⌝ }
         ensures { λ r. ⌜ (r .depth ≡ self .depth) × (r .lets ≡ self .lets) × (r .forks ≡ self .forks) × (r .bound ≡ self .bound + 1) × (scopeOf r ≡ scopeOf self ++ (kind ∷ [])) ⌝ }
     {
@@ -94,7 +85,7 @@ impl Way {
     }
 
     /// The kind that a let on the way has bound.
-    pub fn kind_of(self, number: usize) -> Option<Kind>
+    pub(crate) fn kind_of(self, number: usize) -> Option<Kind>
         requires { ⌜ self .bound ≤ 8 ⌝ }
         ensures { λ r. ⌜ r ≡ cond (ltb number (length (scopeOf self))) (Some (getD (scopeOf self) number Truth)) None ⌝ }
     {

@@ -34,16 +34,17 @@ decoded bytes c all ok =
 
 pub returns : need.returns
 returns c = record {
-    is = c .examine .ensures;
-    sound = λ n ok. decoded (c .args .bytes .now) n (each (c .args .bytes .now) (c .typed .bytes)) (sym (c .examine .ensures) ∙ ok);
-    complete = λ p e.
-        (c .examine .ensures ∙ ap verdict (e .1) ∙ accepts p (e .0), sym (decodes p (e .0)) ∙ ap program-of (sym (e .1)));
-    first = λ f bad.
-        let is = sym (c .examine .ensures) ∙ bad in
-        record {
-          inside = inside (c .args .bytes .now) f is;
-          incurable = λ others alike.
-              decided (c .args .bytes .now) others f (alike .bytes-fit) (alike .others-fit) (alike .beginning) is;
-          clear-before = λ others g alike wrong.
-              clear-before (c .args .bytes .now) others f g (alike .bytes-fit) (alike .others-fit) (alike .beginning) is wrong }
-  }
+  is = c .examine .ensures;
+  sound = λ n ok. decoded (c .args .bytes .now) n (each (c .args .bytes .now) (c .typed .bytes)) (sym (c .examine .ensures) ∙ ok);
+  complete = λ p e.
+      (c .examine .ensures ∙ ap verdict (e .1) ∙ accepts p (e .0), sym (decodes p (e .0)) ∙ ap program-of (sym (e .1)));
+  first = λ f bad.
+      let is = sym (c .examine .ensures) ∙ bad in
+      record {
+        inside = inside (c .args .bytes .now) f is;
+        incurable = λ others alike.
+            decided (c .args .bytes .now) others f (alike .bytes-fit) (alike .others-fit) (alike .beginning) is;
+        clear-before = λ others g alike wrong.
+            clear-before (c .args .bytes .now) others f g (alike .bytes-fit) (alike .others-fit) (alike .beginning) is wrong;
+      };
+}
