@@ -11,11 +11,11 @@ use borrow.Author.Tests.{lt-ltb, le-ltb, le-leb, ne-eqb}
 use Rattle.std.proofs.shelf.Lists.{take-at, drop-at}
 use Rattle.std.specs.declared.option.Option.the-variants.{Some}
 use Rattle.std.specs.declared.result.Result.the-variants.{Ok}
-use Rattle.program.specs.declared.refusal.Refusal.the-variants.{Fill}
-use Rattle.program.specs.declared.kind.Kind.{Kind}
-use Rattle.program.specs.declared.kind.Kind.the-variants.{Truth, Word}
-use Rattle.program.specs.Kinds.{kindOf, kindByte, same, fits, takes}
-use Rattle.program.specs.Reading.{Body, Read, place, expression, action}
+use Rattle.terms.specs.declared.refusal.Refusal.the-variants.{Fill}
+use Rattle.terms.specs.declared.kind.Kind.{Kind}
+use Rattle.terms.specs.declared.kind.Kind.the-variants.{Truth, Word}
+use Rattle.terms.specs.Kinds.{kindOf, kindByte, same, fits, takes}
+use Rattle.tree.specs.Reading.{Body, Read, place, expression, action}
 use Rattle.program.specs.Tree.{Expr, Fetch, Constant, Variable, Operate, Choose, Guard, Let, Action, Assign, If, Parallel, Sequence, When, LetIn, Local, Register, Entry, Program}
 use Rattle.program.specs.Encoding.{two-bytes, four-bytes, expr-bytes, action-bytes, register-bytes, rule-bytes, entry-bytes, all-bytes, encode}
 use Rattle.program.specs.Typing.{Typed, Sound, deep, depth, lets, lets-in, forks, All, kinds-of, Good-register, Good-rule, Good-entry, Some-up-to, Well-formed}

@@ -10,10 +10,10 @@ use borrow.Author.Tests.{ltb-true, leb-true}
 use Rattle.std.proofs.shelf.Lists.{take-append-drop, length-take-le}
 use Rattle.std.specs.declared.option.Option.the-variants.{Some}
 use Rattle.std.specs.declared.result.Result.the-variants.{Ok, Err}
-use Rattle.program.specs.declared.refusal.Refusal.the-variants.{Missing, Fill}
-use Rattle.program.specs.declared.kind.Kind.{Kind}
-use Rattle.program.specs.Kinds.{kindOf, kindByte, fits}
-use Rattle.program.specs.Reading.{Body, fault, and-then, or-fault, place, action, filled, tree}
+use Rattle.terms.specs.declared.refusal.Refusal.the-variants.{Missing, Fill}
+use Rattle.terms.specs.declared.kind.Kind.{Kind}
+use Rattle.terms.specs.Kinds.{kindOf, kindByte, fits}
+use Rattle.tree.specs.Reading.{Body, fault, and-then, or-fault, place, action, filled, tree}
 use Rattle.program.specs.Tree.{Action, Entry}
 use Rattle.program.specs.Encoding.{two-bytes, four-bytes, action-bytes}
 use Rattle.program.specs.Typing.{Good-rule, Good-entry}

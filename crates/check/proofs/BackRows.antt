@@ -9,10 +9,10 @@ use lib.Dec.{eqb, ltb}
 use lib.ListN.{length, length-map}
 use borrow.Author.Tests.{eqb-true, eqb-false, ltb-false}
 use Rattle.std.specs.declared.result.Result.the-variants.{Ok}
-use Rattle.program.specs.declared.refusal.Refusal.the-variants.{Missing, Order, Count}
+use Rattle.terms.specs.declared.refusal.Refusal.the-variants.{Missing, Order, Count}
 use Rattle.program.specs.declared.examine.Counts.{Counts}
-use Rattle.program.specs.declared.kind.Kind.{Kind}
-use Rattle.program.specs.Reading.{Read, fault, place}
+use Rattle.terms.specs.declared.kind.Kind.{Kind}
+use Rattle.tree.specs.Reading.{Read, fault, place}
 use Rattle.program.specs.Tree.{Action, Register, Entry, Program}
 use Rattle.program.specs.Encoding.{register-bytes, rule-bytes, entry-bytes, all-bytes, encode}
 use Rattle.program.specs.Typing.{All, kinds-of, Good-register, Good-rule, Good-entry, Well-formed}

@@ -7,15 +7,15 @@ use native.Mathlib.Omega.{arith}
 use lib.Dec.{eqb}
 use borrow.Author.Tests.{eqb-false}
 use Rattle.std.specs.declared.result.Result.the-variants.{Ok}
-use Rattle.program.specs.declared.refusal.Refusal.the-variants.{Nesting}
-use Rattle.program.specs.declared.kind.Kind.{Kind}
-use Rattle.program.specs.declared.kind.Kind.the-variants.{Truth, Word}
-use Rattle.program.specs.declared.node.ValueNode.{ValueNode}
-use Rattle.program.specs.declared.node.ValueNode
-use Rattle.program.specs.declared.node.ActionNode.{ActionNode}
-use Rattle.program.specs.declared.node.ActionNode
-use Rattle.program.specs.Kinds.{takes}
-use Rattle.program.specs.Reading.{Body, fault, place, kindAt, operatorAt, namedOf, suits, valueAt, valueParts, expression, actionAt, actionParts, action}
+use Rattle.terms.specs.declared.refusal.Refusal.the-variants.{Nesting}
+use Rattle.terms.specs.declared.kind.Kind.{Kind}
+use Rattle.terms.specs.declared.kind.Kind.the-variants.{Truth, Word}
+use Rattle.terms.specs.declared.node.ValueNode.{ValueNode}
+use Rattle.terms.specs.declared.node.ValueNode
+use Rattle.terms.specs.declared.node.ActionNode.{ActionNode}
+use Rattle.terms.specs.declared.node.ActionNode
+use Rattle.terms.specs.Kinds.{takes}
+use Rattle.tree.specs.Reading.{Body, fault, place, kindAt, operatorAt, namedOf, suits, valueAt, valueParts, expression, actionAt, actionParts, action}
 use Rattle.program.specs.Tree.{Expr, Fetch, Constant, Variable, Operate, Choose, Guard, Let, Action, Assign, If, Parallel, Sequence, When, LetIn, Local, Register}
 use Rattle.program.specs.Encoding.{expr-bytes, action-bytes}
 use Rattle.program.specs.Typing.{Typed, Sound, deep, depth, lets, lets-in, forks}

@@ -5,7 +5,7 @@ use Prim.Native.Nat.{ℕ, suc, zero, _≤_}
 use native.Mathlib.Omega.{arith}
 use lib.ListN.{length}
 use Rattle.std.specs.declared.option.Option.the-variants.{Some, None}
-use Rattle.program.specs.declared.kind.Kind.the-variants.{Truth, Word}
+use Rattle.terms.specs.declared.kind.Kind.the-variants.{Truth, Word}
 use Rattle.program.specs.Tree.{Expr, Fetch, Constant, Variable, Operate, Choose, Guard, Let, Action, Assign, If, Parallel, Sequence, When, LetIn, Local, Register, Entry, Program}
 use Rattle.program.specs.Encoding.{expr-bytes, action-bytes, register-bytes, rule-bytes, entry-bytes, all-bytes, encode}
 use Rattle.program.specs.Typing.{deep, depth, All, Some-up-to, Good-rule, kinds-of, Well-formed}

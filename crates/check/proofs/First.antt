@@ -10,10 +10,10 @@ use borrow.Author.Tests.{ltb-true, ltb-false, le-ltb}
 use Rattle.std.proofs.shelf.Lists.{take-append-drop, take-take, take-all, length-take-le}
 use Rattle.std.specs.declared.result.Result.{Result}
 use Rattle.std.specs.declared.result.Result.the-variants.{Ok, Err}
-use Rattle.program.specs.declared.refusal.Refusal.the-variants.{Length}
-use Rattle.program.specs.declared.refusal.Fault.{Fault}
+use Rattle.terms.specs.declared.refusal.Refusal.the-variants.{Length}
+use Rattle.terms.specs.declared.refusal.Fault.{Fault}
 use Rattle.program.specs.declared.examine.Counts.{Counts}
-use Rattle.program.specs.Reading.{fault, place}
+use Rattle.tree.specs.Reading.{fault, place}
 use Rattle.program.specs.Verdict.{recordsOf, verdict}
 use Rattle.check.proofs.Prefix.{Beyond, Late, Beside, stays, fails, past}
 use Rattle.check.proofs.PrefixProgram.{records-beyond, records-beside, nothing, as-is}

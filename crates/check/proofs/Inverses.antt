@@ -11,17 +11,17 @@ use Rattle.std.specs.declared.option.Option.{Option}
 use Rattle.std.specs.declared.option.Option.the-variants.{Some, None}
 use Rattle.std.specs.declared.result.Result.{Result}
 use Rattle.std.specs.declared.result.Result.the-variants.{Ok, Err}
-use Rattle.program.specs.declared.refusal.Fault.{Fault}
-use Rattle.program.specs.declared.kind.Kind.{Kind}
-use Rattle.program.specs.declared.kind.Kind.the-variants.{Truth, Word}
-use Rattle.program.specs.declared.kind.Operator.{Operator}
-use Rattle.program.specs.declared.node.ValueNode.{ValueNode}
-use Rattle.program.specs.declared.node.ValueNode
-use Rattle.program.specs.declared.node.ActionNode.{ActionNode}
-use Rattle.program.specs.declared.node.ActionNode
-use Rattle.program.specs.Kinds.{kindOf, kindByte, same, fits, takes, gives, operatorOf}
-use Rattle.program.specs.Nodes.{valueNode, actionNode}
-use Rattle.program.specs.Reading.{Body, fault, and-then, or-fault, byteOf, wordOf, truthOf, kindAt, operatorAt, namedOf, wantedOf, suits, valueAt, actionAt}
+use Rattle.terms.specs.declared.refusal.Fault.{Fault}
+use Rattle.terms.specs.declared.kind.Kind.{Kind}
+use Rattle.terms.specs.declared.kind.Kind.the-variants.{Truth, Word}
+use Rattle.terms.specs.declared.kind.Operator.{Operator}
+use Rattle.terms.specs.declared.node.ValueNode.{ValueNode}
+use Rattle.terms.specs.declared.node.ValueNode
+use Rattle.terms.specs.declared.node.ActionNode.{ActionNode}
+use Rattle.terms.specs.declared.node.ActionNode
+use Rattle.terms.specs.Kinds.{kindOf, kindByte, same, fits, takes, gives, operatorOf}
+use Rattle.terms.specs.Nodes.{valueNode, actionNode}
+use Rattle.tree.specs.Reading.{Body, fault, and-then, or-fault, byteOf, wordOf, truthOf, kindAt, operatorAt, namedOf, wantedOf, suits, valueAt, actionAt}
 use Rattle.program.specs.Encoding.{four-bytes}
 use Rattle.program.specs.Typing.{Names}
 use Rattle.check.specs.Accepted.{Bytes}

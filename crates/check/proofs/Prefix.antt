@@ -10,14 +10,14 @@ use Rattle.std.specs.declared.option.Option.{Option}
 use Rattle.std.specs.declared.option.Option.the-variants.{Some, None}
 use Rattle.std.specs.declared.result.Result.{Result}
 use Rattle.std.specs.declared.result.Result.the-variants.{Ok, Err}
-use Rattle.program.specs.declared.refusal.Refusal.{Refusal}
-use Rattle.program.specs.declared.refusal.Refusal.the-variants.{Sort, Name}
-use Rattle.program.specs.declared.refusal.Fault.{Fault}
-use Rattle.program.specs.declared.kind.Kind.{Kind}
-use Rattle.program.specs.declared.kind.Kind.the-variants.{Truth}
-use Rattle.program.specs.Reading.{Body, fault, and-then, or-fault, place, byteOf, truthOf, kindAt, operatorAt, namedOf, wantedOf, suits, valueAt, actionAt}
-use Rattle.program.specs.Kinds.{kindOf, same, operatorOf}
-use Rattle.program.specs.Nodes.{valueNode, actionNode}
+use Rattle.terms.specs.declared.refusal.Refusal.{Refusal}
+use Rattle.terms.specs.declared.refusal.Refusal.the-variants.{Sort, Name}
+use Rattle.terms.specs.declared.refusal.Fault.{Fault}
+use Rattle.terms.specs.declared.kind.Kind.{Kind}
+use Rattle.terms.specs.declared.kind.Kind.the-variants.{Truth}
+use Rattle.tree.specs.Reading.{Body, fault, and-then, or-fault, place, byteOf, truthOf, kindAt, operatorAt, namedOf, wantedOf, suits, valueAt, actionAt}
+use Rattle.terms.specs.Kinds.{kindOf, same, operatorOf}
+use Rattle.terms.specs.Nodes.{valueNode, actionNode}
 
 -- What is read lies at or behind the place where reading began, and before the end: `rest` is what is left of a text that ends at `end`.
 abbrev pub Beyond : {A : Type 0} → (A → List ℕ) → ℕ → List ℕ → Result A Fault → Type 0

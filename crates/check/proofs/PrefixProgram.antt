@@ -9,11 +9,11 @@ use lib.Dec.{eqb}
 use lib.ListN.{length}
 use Rattle.std.specs.declared.result.Result.{Result}
 use Rattle.std.specs.declared.result.Result.the-variants.{Ok, Err}
-use Rattle.program.specs.declared.refusal.Refusal.the-variants.{Missing, Order}
-use Rattle.program.specs.declared.refusal.Fault.{Fault}
+use Rattle.terms.specs.declared.refusal.Refusal.the-variants.{Missing, Order}
+use Rattle.terms.specs.declared.refusal.Fault.{Fault}
 use Rattle.program.specs.declared.examine.Counts.{Counts}
-use Rattle.program.specs.declared.kind.Kind.{Kind}
-use Rattle.program.specs.Reading.{Read, fault, and-then, place}
+use Rattle.terms.specs.declared.kind.Kind.{Kind}
+use Rattle.tree.specs.Reading.{Read, fault, and-then, place}
 use Rattle.program.specs.Verdict.{Opening, marked, openingOf, onRegister, onRule, onEntry, registerOf, ruleOf, entryOf, registers, rules, entries, ended, recordsOf}
 use Rattle.check.proofs.Prefix.{Beyond, Beside, stays, fails, past, beyond-then, late-on, then-beside, left, longer, behind, further, place-same}
 use Rattle.check.proofs.PrefixRow.{of-register, of-rule, of-entry, of-none, mark-of, row, row-beyond, row-beside}

@@ -12,12 +12,12 @@ use Rattle.std.specs.declared.option.Option.{Option}
 use Rattle.std.specs.declared.option.Option.the-variants.{Some, None}
 use Rattle.std.specs.declared.result.Result.{Result}
 use Rattle.std.specs.declared.result.Result.the-variants.{Ok, Err}
-use Rattle.program.specs.declared.refusal.Refusal.{Refusal}
-use Rattle.program.specs.declared.refusal.Refusal.the-variants.{Missing, Sort, Name, Fill}
-use Rattle.program.specs.declared.refusal.Fault.{Fault}
-use Rattle.program.specs.declared.kind.Kind.{Kind}
-use Rattle.program.specs.Kinds.{kindOf, fits}
-use Rattle.program.specs.Reading.{Body, Read, Passed, fault, and-then, or-fault, place, action, filled, tree}
+use Rattle.terms.specs.declared.refusal.Refusal.{Refusal}
+use Rattle.terms.specs.declared.refusal.Refusal.the-variants.{Missing, Sort, Name, Fill}
+use Rattle.terms.specs.declared.refusal.Fault.{Fault}
+use Rattle.terms.specs.declared.kind.Kind.{Kind}
+use Rattle.terms.specs.Kinds.{kindOf, fits}
+use Rattle.tree.specs.Reading.{Body, Read, Passed, fault, and-then, or-fault, place, action, filled, tree}
 use Rattle.program.specs.Verdict.{register, entry, fourOf, registerOf, ruleOf, entryOf, bodyAt, rules}
 use Rattle.check.proofs.Prefix.{Beyond, Late, Beside, stays, fails, past, late-on, weaken, left, longer, behind, further, place-same, body}
 use Rattle.check.proofs.PrefixTrees.{action-beyond, action-beside}

@@ -8,8 +8,8 @@ use native.Mathlib.Omega.{arith}
 use lib.Dec.{eqb}
 use lib.ListN.{length, length-append}
 use Rattle.std.specs.declared.result.Result.the-variants.{Ok, Err}
-use Rattle.program.specs.declared.refusal.Refusal.the-variants.{Order, Count}
-use Rattle.program.specs.Reading.{Read, fault, and-then, place}
+use Rattle.terms.specs.declared.refusal.Refusal.the-variants.{Order, Count}
+use Rattle.tree.specs.Reading.{Read, fault, and-then, place}
 use Rattle.program.specs.Verdict.{Opening, register, rule, entry, unknown, cut, marked, openingOf}
 use Rattle.check.proofs.Prefix.{Beyond, Beside, stays, fails, past, beyond-then, late-on, weaken, then-beside, left, behind, further, place-same}
 

@@ -8,17 +8,17 @@ use lib.Dec.{eqb}
 use lib.ListN.{length}
 use Rattle.std.specs.declared.result.Result.{Result}
 use Rattle.std.specs.declared.result.Result.the-variants.{Ok, Err}
-use Rattle.program.specs.declared.refusal.Refusal.{Refusal}
-use Rattle.program.specs.declared.refusal.Refusal.the-variants.{Nesting}
-use Rattle.program.specs.declared.refusal.Fault.{Fault}
-use Rattle.program.specs.declared.kind.Kind.{Kind}
-use Rattle.program.specs.declared.kind.Kind.the-variants.{Truth, Word}
-use Rattle.program.specs.declared.kind.Operator.{Operator}
-use Rattle.program.specs.declared.node.ValueNode.{ValueNode}
-use Rattle.program.specs.declared.node.ValueNode
-use Rattle.program.specs.declared.node.ActionNode.{ActionNode}
-use Rattle.program.specs.declared.node.ActionNode
-use Rattle.program.specs.Reading.{Body, Read, Passed, fault, and-then, place, byteOf, kindAt, operatorAt, namedOf, valueAt, actionAt, valueParts, actionParts, expression, action}
+use Rattle.terms.specs.declared.refusal.Refusal.{Refusal}
+use Rattle.terms.specs.declared.refusal.Refusal.the-variants.{Nesting}
+use Rattle.terms.specs.declared.refusal.Fault.{Fault}
+use Rattle.terms.specs.declared.kind.Kind.{Kind}
+use Rattle.terms.specs.declared.kind.Kind.the-variants.{Truth, Word}
+use Rattle.terms.specs.declared.kind.Operator.{Operator}
+use Rattle.terms.specs.declared.node.ValueNode.{ValueNode}
+use Rattle.terms.specs.declared.node.ValueNode
+use Rattle.terms.specs.declared.node.ActionNode.{ActionNode}
+use Rattle.terms.specs.declared.node.ActionNode
+use Rattle.tree.specs.Reading.{Body, Read, Passed, fault, and-then, place, byteOf, kindAt, operatorAt, namedOf, valueAt, actionAt, valueParts, actionParts, expression, action}
 use Rattle.check.proofs.Prefix.{Beyond, Beside, stays, fails, past, One-byte, weaken, beyond-then, late-on, then-beside, then-same, left, longer, behind, further, place-same, one-beyond, one-beside, one-same, body, byte-one, truth-one, kind-one, operator-one, value-one, action-one, named-one, wanted-one}
 
 -- One reader after another, both at rests.

@@ -6,7 +6,7 @@ use lib.ListN.{length}
 use Rattle.std.specs.declared.result.Result.{Result}
 use Rattle.std.specs.declared.result.Result.the-variants.{Ok}
 use Rattle.program.specs.declared.examine.Counts.{Counts}
-use Rattle.program.specs.declared.refusal.Fault.{Fault}
+use Rattle.terms.specs.declared.refusal.Fault.{Fault}
 use Rattle.program.specs.Tree.{Program}
 use Rattle.program.specs.Encoding.{encode}
 use Rattle.program.specs.Decoding.{program-of}

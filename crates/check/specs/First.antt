@@ -6,8 +6,8 @@ use Prim.Native.Nat.{ℕ, _+_, _≤_, _<_}
 use lib.ListN.{length, take}
 use Rattle.std.specs.declared.result.Result.{Result}
 use Rattle.std.specs.declared.result.Result.the-variants.{Err}
-use Rattle.program.specs.declared.refusal.Refusal.the-variants.{Length}
-use Rattle.program.specs.declared.refusal.Fault.{Fault}
+use Rattle.terms.specs.declared.refusal.Refusal.the-variants.{Length}
+use Rattle.terms.specs.declared.refusal.Fault.{Fault}
 use Rattle.program.specs.declared.examine.Counts.{Counts}
 use Rattle.program.specs.Verdict.{verdict}
 

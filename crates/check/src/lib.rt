@@ -6,7 +6,7 @@ ghost use Rattle.check.specs.Accepted.{Complete, Sound};
 ghost use Rattle.check.specs.First.{Names-first};
 use program::examine::Counts;
 use program::examine::examine;
-use program::refusal::Fault;
+use terms::refusal::Fault;
 
 /// Checks a program's bytes, any number of them: how many registers, rules and entries it has, or its first byte at fault.
 pub fn check(bytes: &[u8]) -> Result<Counts, Fault>

@@ -1,27 +1,23 @@
 -- A slice that a pattern has taken apart, as a list, and what the definitions make of it.
-use mathlib.Core.Path.{_≡_, refl, ap, sym}
+use mathlib.Core.Path.{_≡_, ap, sym}
 use mathlib.Core.List.{List, [], _∷_}
 use mathlib.Core.Bool.{cond}
-use Prim.Native.Nat.{ℕ, suc, _+_, _*_, _-_, _^_, _≤_}
+use Prim.Native.Nat.{ℕ, _+_, _*_, _-_, _^_, _≤_}
 use native.Mathlib.Omega.{arith}
 use lib.Dec.{ltb}
 use lib.ListN.{length, getD, take, drop}
 use Rattle.std.specs.declared.option.Option.the-variants.{Some}
 use Rattle.std.specs.declared.result.Result.the-variants.{Ok, Err}
 use Rattle.std.proofs.shelf.Lists.{take-rest}
-use Rattle.program.specs.declared.refusal.Refusal.the-variants.{Missing, Sort, Name}
-use Rattle.program.specs.declared.kind.Kind.{Kind}
-use Rattle.program.specs.Kinds.{kindOf, fits}
-use Rattle.program.specs.Reading.{Body, fault, and-then, or-fault, place, byteOf}
+use Rattle.terms.specs.declared.refusal.Refusal.the-variants.{Missing, Sort, Name}
+use Rattle.terms.specs.declared.kind.Kind.{Kind}
+use Rattle.terms.specs.Kinds.{kindOf, fits}
+use Rattle.tree.specs.Reading.{fault, and-then, or-fault, place}
 use Rattle.program.specs.Verdict.{openingOf, marked, fourOf, registerOf, ruleOf, entryOf, bodyAt}
 
 -- What a pattern `rest @ ..` behind n bytes holds.
 abbrev pub behind : ℕ → List ℕ → List ℕ
 behind n s = take (length s - n) (drop n s)
-
-pub byte-as : (t : Body) (s : List ℕ) → 1 ≤ length s → byteOf t s ≡ Ok (getD s 0 0, behind 1 s)
-byte-as t [] h = absurd (omega arith)
-byte-as t (a ∷ s) h = ap (λ x. Ok (a, x)) (sym (take-rest (a ∷ s) 1))
 
 pub opening-as : (s : List ℕ) → 2 ≤ length s → openingOf s ≡ marked (getD s 0 0) (getD s 1 0) (behind 2 s)
 opening-as [] h = absurd (omega arith)

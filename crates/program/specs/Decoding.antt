@@ -4,14 +4,14 @@ use Prim.Native.Nat.{ℕ, zero, suc, _+_, _*_}
 use lib.ListN.{length}
 use Rattle.std.specs.declared.option.Option.{Option}
 use Rattle.std.specs.declared.option.Option.the-variants.{Some, None}
-use Rattle.program.specs.declared.kind.Kind.{Kind}
-use Rattle.program.specs.declared.kind.Kind.the-variants.{Truth, Word}
-use Rattle.program.specs.declared.node.ValueNode.{ValueNode}
-use Rattle.program.specs.declared.node.ValueNode
-use Rattle.program.specs.declared.node.ActionNode.{ActionNode}
-use Rattle.program.specs.declared.node.ActionNode
-use Rattle.program.specs.Kinds.{kindOf}
-use Rattle.program.specs.Nodes.{valueNode, actionNode}
+use Rattle.terms.specs.declared.kind.Kind.{Kind}
+use Rattle.terms.specs.declared.kind.Kind.the-variants.{Truth, Word}
+use Rattle.terms.specs.declared.node.ValueNode.{ValueNode}
+use Rattle.terms.specs.declared.node.ValueNode
+use Rattle.terms.specs.declared.node.ActionNode.{ActionNode}
+use Rattle.terms.specs.declared.node.ActionNode
+use Rattle.terms.specs.Kinds.{kindOf}
+use Rattle.terms.specs.Nodes.{valueNode, actionNode}
 use Rattle.program.specs.Tree.{Expr, Fetch, Constant, Variable, Operate, Choose, Guard, Let, Action, Assign, If, Parallel, Sequence, When, LetIn, Local, Register, Entry, Program}
 use Rattle.program.specs.Verdict.{openingOf, onRegister, onRule, onEntry, fourOf}
 

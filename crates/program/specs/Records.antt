@@ -7,11 +7,11 @@ use Rattle.std.specs.declared.option.Option.{Option}
 use Rattle.std.specs.declared.option.Option.the-variants.{Some, None}
 use Rattle.std.specs.declared.result.Result.{Result}
 use Rattle.std.specs.declared.result.Result.the-variants.{Ok, Err}
-use Rattle.program.specs.declared.refusal.Fault.{Fault}
-use Rattle.program.specs.declared.kind.Kind.{Kind}
+use Rattle.terms.specs.declared.refusal.Fault.{Fault}
+use Rattle.terms.specs.declared.kind.Kind.{Kind}
 use Rattle.program.specs.declared.record.Opening.{Opening}
 use Rattle.program.specs.declared.record.Opening
-use Rattle.program.specs.Reading.{Read, Passed}
+use Rattle.tree.specs.Reading.{Read, Passed}
 use Rattle.program.specs.Verdict as Verdict
 
 abbrev pub seen : Opening → Verdict.Opening

@@ -1,7 +1,7 @@
 -- A manual's program as a tree: registers, rules and a schedule of entries.
 use mathlib.Core.List.{List}
 use Prim.Native.Nat.{ℕ}
-use Rattle.program.specs.declared.kind.Kind.{Kind}
+use Rattle.terms.specs.declared.kind.Kind.{Kind}
 
 -- An expression gives a value or is not ready.
 pub data Expr : Type 0 where

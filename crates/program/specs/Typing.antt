@@ -4,9 +4,9 @@ use mathlib.Core.Bool.{true}
 use mathlib.Core.List.{List, [], _∷_, _++_, map}
 use Prim.Native.Nat.{ℕ, _+_, _^_, max, _<_, _≤_}
 use lib.ListN.{length, getD}
-use Rattle.program.specs.declared.kind.Kind.{Kind}
-use Rattle.program.specs.declared.kind.Kind.the-variants.{Truth, Word}
-use Rattle.program.specs.Kinds.{fits, takes, gives}
+use Rattle.terms.specs.declared.kind.Kind.{Kind}
+use Rattle.terms.specs.declared.kind.Kind.the-variants.{Truth, Word}
+use Rattle.terms.specs.Kinds.{fits, takes, gives}
 use Rattle.program.specs.Tree.{Expr, Fetch, Constant, Variable, Operate, Choose, Guard, Let, Action, Assign, If, Parallel, Sequence, When, LetIn, Local, Register, Entry, Program}
 use Rattle.program.specs.Encoding.{encode}
 

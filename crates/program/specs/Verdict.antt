@@ -9,12 +9,12 @@ use Rattle.std.specs.declared.option.Option.{Option}
 use Rattle.std.specs.declared.option.Option.the-variants.{Some, None}
 use Rattle.std.specs.declared.result.Result.{Result}
 use Rattle.std.specs.declared.result.Result.the-variants.{Ok, Err}
-use Rattle.program.specs.declared.refusal.Refusal.the-variants.{Length, Missing, Order, Count, Sort, Name, Fill}
-use Rattle.program.specs.declared.refusal.Fault.{Fault}
-use Rattle.program.specs.declared.kind.Kind.{Kind}
+use Rattle.terms.specs.declared.refusal.Refusal.the-variants.{Length, Missing, Order, Count, Sort, Name, Fill}
+use Rattle.terms.specs.declared.refusal.Fault.{Fault}
+use Rattle.terms.specs.declared.kind.Kind.{Kind}
 use Rattle.program.specs.declared.examine.Counts.{Counts}
-use Rattle.program.specs.Kinds.{kindOf, fits}
-use Rattle.program.specs.Reading.{fault, and-then, or-fault, Read, Passed, place, tree}
+use Rattle.terms.specs.Kinds.{kindOf, fits}
+use Rattle.tree.specs.Reading.{fault, and-then, or-fault, Read, Passed, place, tree}
 
 -- What stands where a record may begin: one of the three marks with what is behind it, two other bytes, or less than two.
 pub data Opening : Type 0 where

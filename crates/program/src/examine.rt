@@ -4,18 +4,18 @@ ghost use mathlib.Core.Path.{_≡_};
 ghost use mathlib.Core.List.{[]};
 ghost use Prim.Native.Nat.{_≤_};
 ghost use lib.ListN.{length};
-ghost use Rattle.program.specs.Reading.{place};
+ghost use Rattle.tree.specs.Reading.{place};
 ghost use Rattle.program.specs.Verdict.{registers, rules, entries, ended, verdict};
 ghost use Rattle.std.specs.Vec.{made};
 ghost use Rattle.program.specs.Records.{listed, counted};
-use crate::kind::Kind;
+use terms::kind::Kind;
 use crate::record::Opening;
 use crate::record::entry;
 use crate::record::opens;
 use crate::record::register;
 use crate::record::rule;
-use crate::refusal::Fault;
-use crate::refusal::Refusal;
+use terms::refusal::Fault;
+use terms::refusal::Refusal;
 
 pub const MAX_BYTES: usize = 16_384;
 

@@ -5,10 +5,10 @@ ghost use Prim.Native.Nat.{_^_, _≤_};
 ghost use lib.Dec.{ltb};
 ghost use Rattle.program.specs.Verdict.{openingOf, fourOf, registerOf, ruleOf, entryOf, bodyAt};
 ghost use Rattle.program.specs.Records.{seen, numbered, with-rest, rest-of};
-use crate::kind::Kind;
-use crate::refusal::Fault;
-use crate::refusal::Refusal;
-use crate::tree::read_body;
+use terms::kind::Kind;
+use terms::refusal::Fault;
+use terms::refusal::Refusal;
+use tree::reader::read_body;
 
 /// What stands where a record may begin: a mark, with the bytes behind it, or none.
 #[derive(Clone, Copy)]

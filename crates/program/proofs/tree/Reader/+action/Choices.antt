@@ -1,4 +1,0 @@
-use Rattle.program.proofs.tree.Reader.+action.Given as given
-
-abbrev pub μ-action : given.MeasureT-action
-μ-action l = l .way .depth

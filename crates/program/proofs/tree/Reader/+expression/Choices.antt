@@ -1,4 +1,0 @@
-use Rattle.program.proofs.tree.Reader.+expression.Given as given
-
-abbrev pub μ-expression : given.MeasureT-expression
-μ-expression l = l .way .depth
