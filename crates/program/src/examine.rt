@@ -8,12 +8,12 @@ ghost use Rattle.tree.specs.Reading.{place};
 ghost use Rattle.program.specs.Verdict.{registers, rules, entries, ended, verdict};
 ghost use Rattle.std.specs.Vec.{made};
 ghost use Rattle.program.specs.Records.{listed, counted};
-use terms::kind::Kind;
 use crate::record::Opening;
 use crate::record::entry;
 use crate::record::opens;
 use crate::record::register;
 use crate::record::rule;
+use terms::kind::Kind;
 use terms::refusal::Fault;
 use terms::refusal::Refusal;
 

@@ -15,4 +15,3 @@ behind n s = take (length s - n) (drop n s)
 pub byte-as : (t : Body) (s : List ℕ) → 1 ≤ length s → byteOf t s ≡ Ok (getD s 0 0, behind 1 s)
 byte-as t [] h = absurd (omega arith)
 byte-as t (a ∷ s) h = ap (λ x. Ok (a, x)) (sym (take-rest (a ∷ s) 1))
-

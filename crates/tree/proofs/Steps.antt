@@ -47,4 +47,3 @@ pub action-read : (r : Reader) (w : Way) →
     (actionParts (bodyOf r) (expression (w .depth - 1) (bodyOf r)) (action (w .depth - 1) (bodyOf r)) (w .lets) (w .forks) (scopeOf w)
     (now (r .rest)) (n .0) (n .1)))
 action-read r w = action-is (w .depth) (bodyOf r) (w .lets) (w .forks) (scopeOf w) (now (r .rest))
-

@@ -5,6 +5,7 @@ ghost use Prim.Native.Nat.{_+_, _≤_};
 ghost use lib.ListN.{length};
 ghost use Rattle.tree.specs.Reading.{byteOf, place, wordOf, truthOf, kindAt, operatorAt, namedOf, wantedOf, valueAt, actionAt, suits, expression, action, tree};
 ghost use Rattle.tree.specs.Ways.{bodyOf, after, passed, scopeOf, Kept};
+use crate::way::Way;
 use terms::kind::Kind;
 use terms::kind::KindPartialEq;
 use terms::kind::Operator;
@@ -12,7 +13,6 @@ use terms::node::ActionNode;
 use terms::node::ValueNode;
 use terms::refusal::Fault;
 use terms::refusal::Refusal;
-use crate::way::Way;
 
 /// A body that is being read.
 #[derive(Drop)]

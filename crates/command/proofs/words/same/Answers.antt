@@ -1,0 +1,7 @@
+use borrow.Author.Needs.{needs}
+use Rattle.std.proofs.shelf.Equals.{matches-decides, sameBytes-decides}
+use Rattle.command.proofs.words.same.Needs as need
+
+pub returns : need.returns
+returns c =
+    let e = matches-decides _ _ _ (c .eq .ensures) in search (needs, sameBytes-decides)
