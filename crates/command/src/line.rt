@@ -10,7 +10,7 @@ use crate::words::split;
 use crate::words::strip;
 
 /// A command, with what it takes.
-#[derive(Clone, Copy, Debug)]
+#[derive(Clone, Copy)]
 pub enum Command<'a> {
     /// Sets the manual to the bytes that the digits stand for.
     Manual(&'a [u8]),

@@ -5,7 +5,7 @@ ghost use Rattle.command.specs.Verbs.{verbOf};
 use crate::words::same;
 
 /// What a command does, by its name.
-#[derive(Clone, Copy, Debug, PartialEq, Eq)]
+#[derive(Clone, Copy)]
 pub enum Verb {
     Manual,
     Load,
