@@ -1,0 +1,3 @@
+pub mod Shared
+pub mod Agree
+pub mod Laws

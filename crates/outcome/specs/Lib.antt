@@ -1,0 +1,4 @@
+pub mod Writes
+pub mod Outcome
+pub mod Rules
+pub mod Laws
