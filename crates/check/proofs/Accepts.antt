@@ -18,7 +18,7 @@ use Rattle.terms.specs.Kinds.{kindOf, kindByte, same, fits, takes}
 use Rattle.tree.specs.Reading.{Body, Read, place, expression, action}
 use Rattle.program.specs.Tree.{Expr, Fetch, Constant, Variable, Operate, Choose, Guard, Let, Action, Assign, If, Parallel, Sequence, When, LetIn, Local, Register, Entry, Program}
 use Rattle.program.specs.Encoding.{two-bytes, four-bytes, expr-bytes, action-bytes, register-bytes, rule-bytes, entry-bytes, all-bytes, encode}
-use Rattle.program.specs.Typing.{Typed, Sound, deep, depth, lets, lets-in, forks, All, kinds-of, Good-register, Good-rule, Good-entry, Some-up-to, Well-formed}
+use Rattle.program.specs.Typing.{Typed, Well-typed, deep, depth, lets, lets-in, forks, All, kinds-of, Good-register, Good-rule, Good-entry, Some-up-to, Well-formed}
 use Rattle.check.specs.Accepted.{counts}
 use Rattle.program.specs.Verdict.{openingOf, onRegister, onRule, onEntry, registerOf, ruleOf, entryOf, registers, rules, entries, recordsOf, verdict}
 
@@ -73,7 +73,7 @@ module _ (t : Body) where
       rw (eqb·suc-zero, kind-again k, one, x, y)
 
   pub action-reads : (e : Action) (d l f : ℕ) (scope : List Kind) (s : List ℕ) →
-      Sound (t .kinds) scope e → depth e ≤ d → lets-in e ≤ l → forks e ≤ f →
+      Well-typed (t .kinds) scope e → depth e ≤ d → lets-in e ≤ l → forks e ≤ f →
       action d t l f scope (action-bytes e s) ≡ Ok s
   unfolding action
   action-reads (Assign r e) zero l f scope s ty p q o = absurd (omega arith)
@@ -162,7 +162,7 @@ rule-reads end kinds a s good =
     let long : n / 256 * 256 + n % 256 ≡ n = omega arith in
     let room : n ≤ length (action-bytes a [] ++ s) = simp length-append (omega arith) in
     let body = action-reads (record { end = place end s; kinds = kinds; short = Fill }) a 24 8 8 [] []
-    (good .sound) (good .depth-within) (good .lets-within) (good .forks-within) in
+    (good .well-typed) (good .depth-within) (good .lets-within) (good .forks-within) in
     rw (
       long,
       action-front a s,

@@ -65,7 +65,7 @@ tree-got t s all h =
     let none : r .0 ≡ [] = nothing (r .0) (r .2) in
     let is = g .is in (
       g .tree,
-      record { sound = g .sound; depth-within = g .depth-within; lets-within = g .lets-within; forks-within = g .forks-within },
+      record { well-typed = g .well-typed; depth-within = g .depth-within; lets-within = g .lets-within; forks-within = g .forks-within },
       cc,
     )
   where

@@ -18,7 +18,7 @@ use Rattle.terms.specs.Kinds.{takes}
 use Rattle.tree.specs.Reading.{Body, fault, place, kindAt, operatorAt, namedOf, suits, valueAt, valueParts, expression, actionAt, actionParts, action}
 use Rattle.program.specs.Tree.{Expr, Fetch, Constant, Variable, Operate, Choose, Guard, Let, Action, Assign, If, Parallel, Sequence, When, LetIn, Local, Register}
 use Rattle.program.specs.Encoding.{expr-bytes, action-bytes}
-use Rattle.program.specs.Typing.{Typed, Sound, deep, depth, lets, lets-in, forks}
+use Rattle.program.specs.Typing.{Typed, Well-typed, deep, depth, lets, lets-in, forks}
 use Rattle.check.specs.Accepted.{Bytes}
 use Rattle.check.proofs.Inverses.{err-ok, then-ok, not-ok, same-true, value-code, action-code, word-got, truth-got, kind-got, named-got, wanted-got, operator-got, value-got, action-got}
 
@@ -147,7 +147,7 @@ expression-got t (suc d) l scope want s m all h =
 -- The same of an action.
 pub record Done (t : Body) (d l f : ℕ) (scope : List Kind) (s m : List ℕ) : Type 0 where
   pub tree : Action
-  pub sound : Sound (t .kinds) scope tree
+  pub well-typed : Well-typed (t .kinds) scope tree
   pub depth-within : depth tree ≤ d
   pub lets-within : lets-in tree ≤ l
   pub forks-within : forks tree ≤ f
@@ -166,7 +166,7 @@ module _ (t : Body) (d : ℕ)
       let is = g .1 in let a = x .is in
       record {
         tree = Assign (g .0) (x .tree);
-        sound = (g .2 .0, rw (g .2 .1) (x .typed));
+        well-typed = (g .2 .0, rw (g .2 .1) (x .typed));
         depth-within = omega (arith, x .deep-within);
         lets-within = x .lets-within;
         forks-within = omega arith;
@@ -180,7 +180,7 @@ module _ (t : Body) (d : ℕ)
       let c = z .is in let a = x .is in
       record {
         tree = If (z .tree) (x .tree);
-        sound = (z .typed, x .sound);
+        well-typed = (z .typed, x .well-typed);
         depth-within = omega (arith, z .deep-within, x .depth-within);
         lets-within = omega (arith, z .lets-within, x .lets-within);
         forks-within = x .forks-within;
@@ -196,7 +196,7 @@ module _ (t : Body) (d : ℕ)
       let a = x .is in let b = y .is in
       record {
         tree = Parallel (x .tree) (y .tree);
-        sound = (x .sound, y .sound);
+        well-typed = (x .well-typed, y .well-typed);
         depth-within = omega (arith, x .depth-within, y .depth-within);
         lets-within = omega (arith, x .lets-within, y .lets-within);
         forks-within = omega (arith, x .forks-within, y .forks-within);
@@ -210,7 +210,7 @@ module _ (t : Body) (d : ℕ)
       let a = x .is in let b = y .is in
       record {
         tree = Sequence (x .tree) (y .tree);
-        sound = (x .sound, y .sound);
+        well-typed = (x .well-typed, y .well-typed);
         depth-within = omega (arith, x .depth-within, y .depth-within);
         lets-within = omega (arith, x .lets-within, y .lets-within);
         forks-within = omega (arith, x .forks-within, y .forks-within);
@@ -224,7 +224,7 @@ module _ (t : Body) (d : ℕ)
       let a = x .is in let c = z .is in
       record {
         tree = When (x .tree) (z .tree);
-        sound = (x .sound, z .typed);
+        well-typed = (x .well-typed, z .typed);
         depth-within = omega (arith, x .depth-within, z .deep-within);
         lets-within = omega (arith, x .lets-within, z .lets-within);
         forks-within = x .forks-within;
@@ -242,7 +242,7 @@ module _ (t : Body) (d : ℕ)
       let is = g .0 in let a = x .is in let b = y .is in
       record {
         tree = LetIn (k .0 .0) (x .tree) (y .tree);
-        sound = (x .typed, y .sound);
+        well-typed = (x .typed, y .well-typed);
         depth-within = omega (arith, x .deep-within, y .depth-within);
         lets-within = omega (arith, x .lets-within, y .lets-within);
         forks-within = y .forks-within;
@@ -256,7 +256,7 @@ module _ (t : Body) (d : ℕ)
       let a = x .is in
       record {
         tree = Local (x .tree);
-        sound = x .sound;
+        well-typed = x .well-typed;
         depth-within = omega (arith, x .depth-within);
         lets-within = x .lets-within;
         forks-within = omega (arith, x .forks-within);

@@ -15,6 +15,7 @@ use Rattle.terms.specs.Nodes.{valueNode, actionNode}
 use Rattle.program.specs.Tree.{Expr, Fetch, Constant, Variable, Operate, Choose, Guard, Let, Action, Assign, If, Parallel, Sequence, When, LetIn, Local, Register, Entry, Program}
 use Rattle.program.specs.Verdict.{openingOf, onRegister, onRule, onEntry, fourOf}
 
+-- One decoding after another.
 abbrev pub and-some : {A B : Type 0} → Option A → (A → Option B) → Option B
 and-some (Some x) f = f x
 and-some None f = None
@@ -23,10 +24,12 @@ and-some None f = None
 abbrev pub Decoder : Type 0 → Type 0
 Decoder A = List ℕ → Option (A × List ℕ)
 
+-- One byte.
 abbrev pub one : Decoder ℕ
 one [] = None
 one (b ∷ s) = Some (b, s)
 
+-- What is behind a node's byte, where `part` decodes its parts.
 abbrev pub value-of : Decoder Expr → ValueNode → Decoder Expr
 value-of part ValueNode.Register s = and-some (one s) (λ r. Some (Fetch (r .0), r .1))
 value-of part ValueNode.Word s = and-some (fourOf s) (λ n. Some (Constant Word (n .0), n .1))
@@ -46,6 +49,7 @@ unfoldable pub expr-of : ℕ → Decoder Expr
 expr-of zero s = None
 expr-of (suc d) s = and-some (one s) (λ b. and-some (valueNode (b .0)) (λ n. value-of (expr-of d) n (b .1)))
 
+-- The same of an action's node.
 abbrev pub act-of : Decoder Expr → Decoder Action → ActionNode → Decoder Action
 act-of value part ActionNode.Assign s = and-some (one s) (λ r. and-some (value (r .1)) (λ e. Some (Assign (r .0) (e .0), e .1)))
 act-of value part ActionNode.If s = and-some (value s) (λ c. and-some (part (c .1)) (λ a. Some (If (c .0) (a .0), a .1)))

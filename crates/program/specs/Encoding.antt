@@ -14,10 +14,12 @@ two-bytes n s = n / 256 ∷ (n % 256 ∷ s)
 abbrev pub four-bytes : ℕ → List ℕ → List ℕ
 four-bytes n s = n / 16777216 ∷ (n / 65536 % 256 ∷ (n / 256 % 256 ∷ (n % 256 ∷ s)))
 
+-- A constant is 03 and its truth, or 02 and its word.
 abbrev pub constant-bytes : Kind → ℕ → List ℕ → List ℕ
 constant-bytes Truth n s = 3 ∷ (n ∷ s)
 constant-bytes Word n s = 2 ∷ four-bytes n s
 
+-- An expression: its node's byte, then its parts.
 abbrev pub expr-bytes : Expr → List ℕ → List ℕ
 expr-bytes (Fetch r) s = 1 ∷ (r ∷ s)
 expr-bytes (Constant k n) s = constant-bytes k n s
@@ -27,6 +29,7 @@ expr-bytes (Choose c a b) s = 6 ∷ expr-bytes c (expr-bytes a (expr-bytes b s))
 expr-bytes (Guard a c) s = 7 ∷ expr-bytes a (expr-bytes c s)
 expr-bytes (Let k a b) s = 8 ∷ (kindByte k ∷ expr-bytes a (expr-bytes b s))
 
+-- An action likewise.
 abbrev pub action-bytes : Action → List ℕ → List ℕ
 action-bytes (Assign r e) s = 17 ∷ (r ∷ expr-bytes e s)
 action-bytes (If c a) s = 18 ∷ expr-bytes c (action-bytes a s)
@@ -53,6 +56,7 @@ abbrev pub all-bytes : {A : Type 0} → (A → List ℕ → List ℕ) → List A
 all-bytes f [] s = s
 all-bytes f (x ∷ xs) s = f x (all-bytes f xs s)
 
+-- Registers, then rules, then entries.
 abbrev pub encode : Program → List ℕ
 encode p =
     all-bytes register-bytes (p .registers) (all-bytes rule-bytes (p .rules) (all-bytes entry-bytes (p .entries) []))

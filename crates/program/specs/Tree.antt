@@ -37,6 +37,7 @@ pub data Action : Type 0 where
   -- an action where it is ready, and else no writes
   Local : Action → Action
 
+-- A register: its kind, and the value that it begins with.
 pub record Register : Type 0 where
   pub kind : Kind
   pub initial : ℕ
@@ -46,6 +47,7 @@ pub record Entry : Type 0 where
   pub rule : ℕ
   pub blockers : ℕ
 
+-- A program: its registers, its rules, and its schedule.
 pub record Program : Type 0 where
   pub registers : List Register
   pub rules : List Action

@@ -27,15 +27,15 @@ Typed registers scope want (Choose c a b) =
 Typed registers scope want (Guard a c) = Typed registers scope want a × Typed registers scope Truth c
 Typed registers scope want (Let k a b) = Typed registers scope k a × Typed registers (scope ++ (k ∷ [])) want b
 
--- The same of an action: what it assigns has the register's kind.
-abbrev pub Sound : List Kind → List Kind → Action → Type 0
-Sound registers scope (Assign r e) = (r < length registers) × Typed registers scope (getD registers r Truth) e
-Sound registers scope (If c a) = Typed registers scope Truth c × Sound registers scope a
-Sound registers scope (Parallel a b) = Sound registers scope a × Sound registers scope b
-Sound registers scope (Sequence a b) = Sound registers scope a × Sound registers scope b
-Sound registers scope (When a c) = Sound registers scope a × Typed registers scope Truth c
-Sound registers scope (LetIn k e a) = Typed registers scope k e × Sound registers (scope ++ (k ∷ [])) a
-Sound registers scope (Local a) = Sound registers scope a
+-- The action is well typed: each part has the kind that is wanted there, and what is assigned has the register's kind.
+abbrev pub Well-typed : List Kind → List Kind → Action → Type 0
+Well-typed registers scope (Assign r e) = (r < length registers) × Typed registers scope (getD registers r Truth) e
+Well-typed registers scope (If c a) = Typed registers scope Truth c × Well-typed registers scope a
+Well-typed registers scope (Parallel a b) = Well-typed registers scope a × Well-typed registers scope b
+Well-typed registers scope (Sequence a b) = Well-typed registers scope a × Well-typed registers scope b
+Well-typed registers scope (When a c) = Well-typed registers scope a × Typed registers scope Truth c
+Well-typed registers scope (LetIn k e a) = Typed registers scope k e × Well-typed registers (scope ++ (k ∷ [])) a
+Well-typed registers scope (Local a) = Well-typed registers scope a
 
 -- How many nodes lie on the longest way into a tree.
 abbrev pub deep : Expr → ℕ
@@ -85,6 +85,7 @@ forks (When a c) = forks a
 forks (LetIn k e a) = forks a
 forks (Local a) = 1 + forks a
 
+-- P holds of each element.
 abbrev pub All : {A : Type 0} → (A → Type 0) → List A → Type 0
 All P [] = Unit {0}
 All P (x ∷ xs) = P x × All P xs
@@ -93,6 +94,7 @@ All P (x ∷ xs) = P x × All P xs
 abbrev pub Some-up-to : ℕ → {A : Type 0} → List A → Type 0
 Some-up-to most xs = (1 ≤ length xs) × (length xs ≤ most)
 
+-- The kinds of the registers, by number.
 abbrev pub kinds-of : List Register → List Kind
 kinds-of = map (λ (r : Register). r .kind)
 
@@ -102,7 +104,7 @@ Good-register r = fits (r .kind) (r .initial) ≡ true
 
 -- A rule is well typed and within the nesting limits.
 pub record Good-rule (kinds : List Kind) (a : Action) : Type 0 where
-  pub sound : Sound kinds [] a
+  pub well-typed : Well-typed kinds [] a
   pub depth-within : depth a ≤ 24
   pub lets-within : lets-in a ≤ 8
   pub forks-within : forks a ≤ 8
@@ -111,6 +113,7 @@ pub record Good-rule (kinds : List Kind) (a : Action) : Type 0 where
 abbrev pub Good-entry : ℕ → Entry → Type 0
 Good-entry n e = (e .rule < n) × (e .blockers < 2 ^ n)
 
+-- A program is well formed: at least one record of each sort and not too many, each of them good, and not too many bytes in all.
 pub record Well-formed (p : Program) : Type 0 where
   pub some-registers : Some-up-to 64 (p .registers)
   pub some-rules : Some-up-to 32 (p .rules)

@@ -30,6 +30,7 @@ marked a b s =
     cond (eqb a 82) (cond (eqb b 71) (register s) (cond (eqb b 76) (rule s) unknown))
     (cond (eqb a 83) (cond (eqb b 69) (entry s) unknown) unknown)
 
+-- What the first bytes open.
 abbrev pub openingOf : List ℕ → Opening
 openingOf [] = cut
 openingOf (a ∷ []) = cut
@@ -133,6 +134,7 @@ ended end entries [] = cond (eqb entries 0) (Err (fault Missing end)) (Ok tt)
 ended end entries (a ∷ []) = Err (fault Missing end)
 ended end entries (a ∷ (b ∷ s)) = Err (fault Order (place end (a ∷ (b ∷ s))))
 
+-- All records of a program that ends at `end`, and how many there are of each sort.
 abbrev pub recordsOf : ℕ → List ℕ → Result Counts Fault
 recordsOf end s =
     and-then (registers 64 end [] s) (λ g. and-then (rules 32 end (g .0) 0 (g .1)) (λ u.

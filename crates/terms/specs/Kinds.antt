@@ -17,6 +17,7 @@ kindByte Word = 1
 abbrev pub kindOf : ℕ → Option Kind
 kindOf b = cond (eqb b 0) (Some Truth) (cond (eqb b 1) (Some Word) None)
 
+-- Whether two kinds are the same.
 abbrev pub same : Kind → Kind → Bool
 same Truth Truth = true
 same Truth Word = false

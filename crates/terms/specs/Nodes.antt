@@ -9,6 +9,7 @@ use Rattle.terms.specs.declared.node.ValueNode
 use Rattle.terms.specs.declared.node.ActionNode.{ActionNode}
 use Rattle.terms.specs.declared.node.ActionNode
 
+-- The nodes that give a value.
 abbrev pub valueNode : ℕ → Option ValueNode
 valueNode b =
     cond (eqb b 1) (Some ValueNode.Register) (cond (eqb b 2) (Some ValueNode.Word)
@@ -16,6 +17,7 @@ valueNode b =
     (cond (eqb b 5) (Some ValueNode.Operator) (cond (eqb b 6) (Some ValueNode.Choice)
     (cond (eqb b 7) (Some ValueNode.Guard) (cond (eqb b 8) (Some ValueNode.Let) None)))))))
 
+-- The nodes that give writes.
 abbrev pub actionNode : ℕ → Option ActionNode
 actionNode b =
     cond (eqb b 17) (Some ActionNode.Assign) (cond (eqb b 18) (Some ActionNode.If)

@@ -4,9 +4,11 @@ use Rattle.terms.specs.declared.refusal.Refusal.{Refusal}
 use Rattle.terms.specs.declared.refusal.Fault.{Fault}
 use Rattle.terms.specs.declared.refusal.Refusal.the-variants.{Length, Missing, Order, Count, Sort, Name, Nesting, Fill}
 
+-- What is wrong, and where.
 abbrev pub fault : Refusal → ℕ → Fault
 fault q p = record { refusal = q; place = p }
 
+-- The number of a refusal's question.
 abbrev pub number : Refusal → ℕ
 number Length = 1
 number Missing = 2

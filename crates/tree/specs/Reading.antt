@@ -23,6 +23,7 @@ pub use Rattle.terms.specs.Refusals.{fault}
 use Rattle.terms.specs.Kinds.{kindOf, same, operatorOf}
 use Rattle.terms.specs.Nodes.{valueNode, actionNode}
 
+-- One reading after another: the first fault ends it.
 abbrev pub and-then : {A B : Type 0} → Result A Fault → (A → Result B Fault) → Result B Fault
 and-then (Ok x) f = f x
 and-then (Err e) f = Err e
@@ -136,6 +137,7 @@ valueParts t value lets scope want from ValueNode.Let s =
     (and-then (kindAt t s) (λ k. and-then (value (lets - 1) scope (k .0) (k .1)) (λ l.
     value (lets - 1) (scope ++ (k .0 ∷ [])) want l)))
 
+-- The same of an action's node.
 abbrev pub actionParts : Body → Values → Actions → ℕ → ℕ → List Kind → List ℕ → ActionNode → List ℕ → Passed
 actionParts t value act lets forks scope from ActionNode.Assign s =
     and-then (namedOf t (t .kinds) s) (λ k. value lets scope (k .0) (k .1))
@@ -155,14 +157,14 @@ actionParts t value act lets forks scope from ActionNode.Let s =
 actionParts t value act lets forks scope from ActionNode.Local s =
     cond (eqb forks 0) (Err (fault Nesting (place (t .end) from))) (act lets (forks - 1) scope s)
 
--- An expression that may be n nodes deep.
+-- An expression that may be d nodes deep.
 unfoldable pub expression : ℕ → Body → Values
 expression zero t lets scope want s =
     and-then (valueAt t want s) (λ n. Err (fault Nesting (place (t .end) s)))
 expression (suc d) t lets scope want s =
     and-then (valueAt t want s) (λ n. valueParts t (expression d t) lets scope want s (n .0) (n .1))
 
--- An action that may be n nodes deep.
+-- An action that may be d nodes deep.
 unfoldable pub action : ℕ → Body → Actions
 action zero t lets forks scope s =
     and-then (actionAt t s) (λ n. Err (fault Nesting (place (t .end) s)))

@@ -37,6 +37,7 @@ pastFork w p =
     cond (eqb (w .forks) 0) (Err (fault Nesting p))
     (Ok (record { depth = w .depth; lets = w .lets; forks = w .forks - 1; scope = w .scope; bound = w .bound }))
 
+-- What stays the same while the reader reads.
 abbrev pub bodyOf : Reader → Body
 bodyOf r = record { end = r .end; kinds = now (r .kinds); short = r .short }
 
@@ -45,6 +46,7 @@ abbrev pub after : {A : Type 0} → Result A Fault → Reader → Read A
 after (Ok x) r = Ok (x, now (r .rest))
 after (Err e) r = Err e
 
+-- The same of one that answers only whether all is well.
 abbrev pub passed : Result (Unit {0}) Fault → Reader → Passed
 passed (Ok x) r = Ok (now (r .rest))
 passed (Err e) r = Err e
