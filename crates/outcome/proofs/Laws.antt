@@ -8,12 +8,13 @@ use native.Mathlib.Omega.{arith}
 use Rattle.std.specs.declared.option.Option.{Option}
 use Rattle.std.specs.declared.option.Option.the-variants.{Some, None}
 use Rattle.program.specs.Tree.{Action}
-use Rattle.outcome.specs.Writes.{Writes, or-else, over, shared}
+use Rattle.outcome.specs.Writes.{shared-below, Writes, or-else, over, shared}
 use Rattle.outcome.specs.Outcome.{Given, ready, not-ready, and-ready, joined, writes}
 use Rattle.outcome.specs.Laws.{Worked-cases, No-double-write, Branches-alone, Failure-keeps-nothing, Same-writes, Branches-exchange}
 use Rattle.outcome.proofs.Shared.{apart-below, not-shared, is-shared, written-twice}
 
 pub worked-cases : Worked-cases
+unfolding shared-below
 worked-cases = record {
   parallel-swap = refl;
   sequence-swap = refl;

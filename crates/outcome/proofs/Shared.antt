@@ -47,6 +47,7 @@ at-or-below {P} n here below r h = go (eqb r n) refl
     go false e = let ne = eqb-false r n e in below r (omega arith)
 
 pub apart-below : (n : ℕ) (p q : Writes) → shared-below n p q ≡ false → (r : ℕ) → r < n → (p r ≡ None) ⊎ (q r ≡ None)
+unfolding shared-below
 apart-below zero p q h r less = absurd (omega arith)
 apart-below (suc n) p q h r less = go (both (is-write (p n)) (is-write (q n))) refl (apart-below n p q) h r less
   where
@@ -57,6 +58,7 @@ apart-below (suc n) p q h r less = go (both (is-write (p n)) (is-write (q n))) r
     go false e inner h = at-or-below {P = λ r. (p r ≡ None) ⊎ (q r ≡ None)} n (one-is-none (p n) (q n) e) (inner h)
 
 pub written-twice : (n : ℕ) (p q : Writes) → shared-below n p q ≡ true → (r : ℕ) × (r < n) × (p r ≡ None → ⊥) × (q r ≡ None → ⊥)
+unfolding shared-below
 written-twice zero p q h = absurd (true-false (sym h))
 written-twice (suc n) p q h = go (both (is-write (p n)) (is-write (q n))) refl (written-twice n p q) h
   where
@@ -67,6 +69,7 @@ written-twice (suc n) p q h = go (both (is-write (p n)) (is-write (q n))) refl (
     go false e inner h = let k = inner h in (k .0, omega (arith, k .1), k .2, k .3)
 
 pub not-shared : (n : ℕ) (p q : Writes) → ((r : ℕ) → r < n → (p r ≡ None) ⊎ (q r ≡ None)) → shared-below n p q ≡ false
+unfolding shared-below
 not-shared zero p q h = refl
 not-shared (suc n) p q h =
     rw (not-both (p n) (q n) (h n (omega arith))) (not-shared n p q (λ r less. h r (omega arith)))

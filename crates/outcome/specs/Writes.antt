@@ -36,7 +36,7 @@ both true b = b
 both false b = false
 
 -- Whether some register below n is written in both.
-abbrev pub shared-below : ℕ → Writes → Writes → Bool
+unfoldable pub shared-below : ℕ → Writes → Writes → Bool
 shared-below zero p q = false
 shared-below (suc n) p q = cond (both (is-write (p n)) (is-write (q n))) true (shared-below n p q)
 

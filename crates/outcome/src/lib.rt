@@ -2,7 +2,11 @@
 
 ghost use Rattle.outcome.specs.Laws.{Rules-agree, Worked-cases, No-double-write, Branches-alone, Failure-keeps-nothing, Branches-exchange};
 
+pub mod done;
 pub mod operator;
+mod value;
+pub mod worker;
+pub mod writes;
 
 /// Says, by its contract alone, what holds of the meaning of rules: the operational rules and the definition agree, the worked
 /// cases come out as they should, and the readings that go astray are ruled out.
