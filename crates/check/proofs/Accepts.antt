@@ -108,7 +108,7 @@ module _ (t : Body) where
       let x = action_reads a d l f scope s ty (omega arith) (omega arith) (omega arith) in
       rw (eqb-suc-zero, one, x)
 
--- What a function writes Stands in front of what comes behind.
+-- What a function writes stands in front of what comes behind.
 abbrev Front : (List ℕ → List ℕ) → Type 0
 Front f = (s : List ℕ) → f s ≡ f [] ++ s
 

@@ -15,7 +15,7 @@ use Rattle.check.proofs.Inverses.{err_ok, ok_ok, then_ok, not_ok}
 use Rattle.check.proofs.BackRecords.{register_got, rule_got, entry_got}
 use Rattle.check.proofs.BackTrees.{positive}
 
--- What Stands where a record may begin.
+-- What stands where a record may begin.
 data Shape (s : List ℕ) : Type 0 where
   is_register : (g : List ℕ) → s ≡ 82 ∷ (71 ∷ g) → opening_of s ≡ register g → Shape s
   is_rule : (g : List ℕ) → s ≡ 82 ∷ (76 ∷ g) → opening_of s ≡ rule g → Shape s

@@ -93,7 +93,7 @@ module _ (v : List ℕ) (p : ℕ) (q : Refusal) where
     judged_value true x = content (λ m. (x, m)) (λ m. refl) (λ m. refl) (λ m. refl)
     judged_value false x = refused q (λ m. refl)
 
-    -- A byte that Stands for something that passes a test, or for nothing.
+    -- A byte that stands for something that passes a test, or for nothing.
     judged_option : (o : Option X) (test : X → Bool) →
         Judged behind (further v) v p (λ m. and_then (or_fault (fault q p) o) (λ x. cond (test x) (Ok (x, m)) (Err (fault q p))))
     judged_option (Some x) test = judged_value (test x) x

@@ -36,7 +36,7 @@ bytes_white [] h w = absurd (omega arith)
 bytes_white (a ∷ []) h w = rw w
 bytes_white (a ∷ (b ∷ s)) h w = rw (w, take_rest (a ∷ (b ∷ s)) 1)
 
--- A byte before those that the rest of a text Stands for.
+-- A byte before those that the rest of a text stands for.
 abbrev pub put : ℕ × List ℕ → Result (List ℕ) Mistake
 put p = and_then (bytes_of p.1) (λ bytes. Ok (p.0 ∷ bytes))
 

@@ -14,7 +14,7 @@ and_then (Err e) f = Err e
 abbrev pub from_to : ℕ → ℕ → ℕ → Bool
 from_to a c b = nat_le a b && nat_le b c
 
--- What a digit Stands for: 0 to 9, and A to F or a to f for ten to fifteen.
+-- What a digit stands for: 0 to 9, and A to F or a to f for ten to fifteen.
 abbrev pub digit_of : ℕ → Result ℕ Mistake
 digit_of b =
     cond (from_to 48 57 b) (Ok (b - 48)) (cond (from_to 65 70 b) (Ok (b - 65 + 10))

@@ -1,6 +1,5 @@
 pub mod Words
 pub mod Verbs
 pub mod Digits
-pub mod Decimals
 pub mod Lines
 pub mod Told

@@ -2,23 +2,19 @@
 use Rattle.std.specs.Prelude.{ℕ, cond, List, [], ◌∷◌, Some, None, Ok, Err, Option, Result, ◌==◌}
 use Rattle.std.specs.Borrow.{Bor}
 use Rattle.command.specs.declared.mistake.Mistake.{Mistake}
-use Rattle.command.specs.declared.mistake.Mistake.TheVariants.{Unknown, Superfluous, NoFile, NoRule}
+use Rattle.command.specs.declared.mistake.Mistake.TheVariants.{Unknown, Superfluous, NoFile}
 use Rattle.command.specs.declared.verb.Verb.{Verb}
 use Rattle.command.specs.declared.verb.Verb
 use Rattle.command.specs.declared.line.Command.{Command}
 use Rattle.command.specs.declared.line.Command
 use Rattle.command.specs.Words.{stripped, word, behind}
 use Rattle.command.specs.Verbs.{verb_of}
-use Rattle.command.specs.Digits.{and_then}
-use Rattle.command.specs.Decimals.{number_of}
 
--- A command: `manual` with its digits, `load` with a file's name, `proofread` with a rule's number and the text of the
--- values, and those that take nothing.
+-- A command: `manual` with its digits, `load` with a file's name, and those that take nothing.
 pub data Said : Type 0 where
   manual : List ℕ → Said
   load : List ℕ → Said
   check : Said
-  proofread : ℕ → List ℕ → Said
   help : Said
 
 -- A command that nothing may stand behind.
@@ -36,18 +32,12 @@ abbrev pub loaded : Result (List ℕ) Mistake → Result (Option Said) Mistake
 loaded (Ok name) = Ok (Some (load name))
 loaded (Err e) = Err e
 
--- The number of a rule, one word, and behind it the values.
-abbrev pub rule_of : List ℕ → List ℕ → Result (Option Said) Mistake
-rule_of [] s = Err NoRule
-rule_of (b ∷ w) s = and_then (number_of (b ∷ w)) (λ n. Ok (Some (proofread n s)))
-
 -- A command with what is behind its name.
 abbrev pub meant : Option Verb → List ℕ → Result (Option Said) Mistake
 meant None s = Err Unknown
 meant (Some Verb.Manual) s = Ok (Some (manual s))
 meant (Some Verb.Load) s = loaded (file_of (word (stripped s)) (stripped (behind (stripped s))))
 meant (Some Verb.Check) s = alone check (stripped s)
-meant (Some Verb.Proofread) s = rule_of (word (stripped s)) (behind (stripped s))
 meant (Some Verb.Help) s = alone help (stripped s)
 
 -- A line without words, or whose first word begins with the sign #, gives no command.
@@ -63,7 +53,6 @@ abbrev pub seen : Command → Said
 seen (Command.Manual s) = manual s.now
 seen (Command.Load s) = load s.now
 seen Command.Check = check
-seen (Command.Proofread n s) = proofread n s.now
 seen Command.Help = help
 
 abbrev pub answered : Result (Option Command) Mistake → Result (Option Said) Mistake

@@ -3,7 +3,7 @@ use Rattle.std.specs.Prelude.{ℕ, cond, List, ◌++◌, codes, decimal}
 use Rattle.std.proofs.Math.Utf8.{encode}
 use Rattle.std.specs.Char.{is_ascii_graphic}
 use Rattle.command.specs.declared.mistake.Mistake.{Mistake}
-use Rattle.command.specs.declared.mistake.Mistake.TheVariants.{Unknown, Superfluous, NoFile, NoDigit, LoneDigit, NoRule, NoDecimal, TooLarge, Memory}
+use Rattle.command.specs.declared.mistake.Mistake.TheVariants.{Unknown, Superfluous, NoFile, NoDigit, LoneDigit, Memory}
 
 -- A byte that is no digit is shown as the character that it is, if it is a printed one, and else by its number.
 abbrev pub no_digit : ℕ → List ℕ
@@ -11,18 +11,10 @@ no_digit b =
     cond (is_ascii_graphic b) (codes "'" ++ (encode b ++ codes "' is no hexadecimal digit"))
     (codes "the byte " ++ (decimal b ++ codes " is no hexadecimal digit"))
 
-abbrev pub no_decimal : ℕ → List ℕ
-no_decimal b =
-    cond (is_ascii_graphic b) (codes "'" ++ (encode b ++ codes "' is no decimal digit"))
-    (codes "the byte " ++ (decimal b ++ codes " is no decimal digit"))
-
 abbrev pub told : Mistake → List ℕ
 told Unknown = codes "there is no such command"
 told Superfluous = codes "there are more words than the command takes"
 told NoFile = codes "the name of a file is missing"
 told (NoDigit b) = no_digit b
 told LoneDigit = codes "the hexadecimal digits do not come in pairs"
-told NoRule = codes "the number of a rule is missing"
-told (NoDecimal b) = no_decimal b
-told TooLarge = codes "a number is above 4294967295"
 told Memory = codes "there is not enough memory"

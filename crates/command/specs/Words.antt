@@ -1,5 +1,5 @@
 -- The words of a line, which white space keeps apart.
-use Rattle.std.specs.Prelude.{ℕ, ◌+◌, Bool, true, false, cond, not, List, [], ◌∷◌, take, drop, ◌==◌}
+use Rattle.std.specs.Prelude.{ℕ, ◌+◌, Bool, true, false, cond, List, [], ◌∷◌, take, drop, ◌==◌}
 
 -- White space: a tab, a line feed, a carriage return or a space.
 abbrev pub white : ℕ → Bool
@@ -21,18 +21,3 @@ word s = take (word_length s) s
 
 abbrev pub behind : List ℕ → List ℕ
 behind s = drop (word_length s) s
-
--- Whether a text begins with a word.
-abbrev pub begins : List ℕ → Bool
-begins [] = false
-begins (b ∷ s) = not (white b)
-
--- A byte before the first word.
-abbrev pub longer : ℕ → List (List ℕ) → List (List ℕ)
-longer b [] = (b ∷ []) ∷ []
-longer b (w ∷ ws) = (b ∷ w) ∷ ws
-
--- The words of a text.
-abbrev pub words : List ℕ → List (List ℕ)
-words [] = []
-words (b ∷ s) = cond (white b) (words s) (cond (begins s) (longer b (words s)) ((b ∷ []) ∷ words s))

@@ -1,6 +1,5 @@
 // The reader's commands: what a line of text says.
 
-pub mod decimal;
 pub mod hex;
 pub mod line;
 pub mod mistake;

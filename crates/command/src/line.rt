@@ -2,10 +2,9 @@
 
 ghost use Rattle.std.specs.Prelude.{◌≡◌};
 ghost use Rattle.command.specs.Words.{stripped, word, behind};
-ghost use Rattle.command.specs.Lines.{said_of, file_of, rule_of, seen, answered, name_of};
+ghost use Rattle.command.specs.Lines.{said_of, file_of, seen, answered, name_of};
 ghost use Rattle.command.specs.Lines as Lines;
 
-use crate::decimal::number;
 use crate::mistake::Mistake;
 use crate::verb::Verb;
 use crate::words::{split, strip};
@@ -19,8 +18,6 @@ pub enum Command<'a> {
     Load(&'a [u8]),
     /// Checks the manual.
     Check,
-    /// Works a rule out, by its number, on the values that the decimal numbers in a text stand for.
-    Proofread(u32, &'a [u8]),
     /// Lists the commands.
     Help,
 }
@@ -38,7 +35,6 @@ pub fn parse(line: &[u8]) -> Result<Option<Command<'_>>, Mistake>
         Some(Verb::Manual) => Ok(Some(Command::Manual(rest))),
         Some(Verb::Load) => Ok(Some(Command::Load(file(rest)?))),
         Some(Verb::Check) => alone(Command::Check, rest),
-        Some(Verb::Proofread) => proofread(rest),
         Some(Verb::Help) => alone(Command::Help, rest),
     }
 }
@@ -66,15 +62,4 @@ fn file(rest: &[u8]) -> Result<&[u8], Mistake>
     } else {
         Err(Mistake::Superfluous)
     }
-}
-
-/// The command `proofread`, with the rule's number behind its name and the values behind that.
-fn proofread(rest: &[u8]) -> Result<Option<Command<'_>>, Mistake>
-    ensures { answered result ≡ rule_of (word (stripped rest.now)) (behind (stripped rest.now)) }
-{
-    let (rule, values) = split(strip(rest));
-    if rule.is_empty() {
-        return Err(Mistake::NoRule);
-    }
-    Ok(Some(Command::Proofread(number(rule)?, values)))
 }

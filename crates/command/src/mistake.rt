@@ -20,12 +20,6 @@ pub enum Mistake {
     NoDigit(u8),
     /// A digit without the second one of its pair.
     LoneDigit,
-    /// The command wants a rule's number.
-    NoRule,
-    /// A byte that is no decimal digit where one is wanted.
-    NoDecimal(u8),
-    /// A decimal number is too large for a word.
-    TooLarge,
     /// There is no memory for what the line says.
     Memory,
 }
@@ -60,13 +54,6 @@ impl fmt::Display for Mistake {
             }
             Mistake::NoDigit(byte) => write!(f, "the byte {byte} is no hexadecimal digit"),
             Mistake::LoneDigit => write!(f, "the hexadecimal digits do not come in pairs"),
-            Mistake::NoRule => write!(f, "the number of a rule is missing"),
-            Mistake::NoDecimal(byte) if byte.is_ascii_graphic() => {
-                let shown = char::from(*byte);
-                write!(f, "'{shown}' is no decimal digit")
-            }
-            Mistake::NoDecimal(byte) => write!(f, "the byte {byte} is no decimal digit"),
-            Mistake::TooLarge => write!(f, "a number is above 4294967295"),
             Mistake::Memory => write!(f, "there is not enough memory"),
         }
     }

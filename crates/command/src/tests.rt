@@ -1,6 +1,5 @@
 // Examples of lines, and of digits.
 
-use crate::decimal::numbers;
 use crate::hex::decode;
 use crate::line::{Command, parse};
 use crate::mistake::Mistake;
@@ -23,40 +22,11 @@ fn mistaken_digits_are_told(rt: HostRuntime) {
 }
 
 #[test]
-fn digits_stand_for_numbers(rt: HostRuntime) -> Result<(), Fail> {
-    let heap = rt.alloc();
-    let some = numbers(heap, b" 0 4294967295\t007\r\n")?;
-    assert!(rt; some.as_slice() == &[0, 4294967295, 7]);
-    assert!(rt; numbers(heap, b" \n")?.is_empty());
-    Ok(())
-}
-
-#[test]
-fn mistaken_numbers_are_told(rt: HostRuntime) {
-    let heap = rt.alloc();
-    assert_eq!(rt;
-        numbers(heap, b"0 -1").err(),
-        Some(Mistake::NoDecimal(b'-'))
-    );
-    assert_eq!(rt; numbers(heap, b"0x1").err(), Some(Mistake::NoDecimal(b'x')));
-    assert_eq!(rt; numbers(heap, b"4294967296").err(), Some(Mistake::TooLarge));
-    assert_eq!(rt;
-        numbers(heap, b"42949672950").err(),
-        Some(Mistake::TooLarge)
-    );
-}
-
-#[test]
 fn a_line_gives_its_command(rt: HostRuntime) -> Result<(), Fail> {
     let Some(Command::Load(name)) = parse(b" load  some.manual \n")? else {
         return Err(Fail::new("load"));
     };
     assert!(rt; same(name, b"some.manual"));
-    let Some(Command::Proofread(rule, values)) = parse(b"proofread 2 3 5\n")? else {
-        return Err(Fail::new("proofread"));
-    };
-    assert_eq!(rt; rule, 2);
-    assert!(rt; same(values, b" 3 5\n"));
     assert!(rt; matches!(parse(b"check\n")?, Some(Command::Check)));
     assert!(rt; parse(b" # check\n")?.is_none());
     Ok(())
@@ -67,6 +37,4 @@ fn a_mistaken_line_is_told(rt: HostRuntime) {
     assert_eq!(rt; parse(b"checks").err(), Some(Mistake::Unknown));
     assert_eq!(rt; parse(b"check it").err(), Some(Mistake::Superfluous));
     assert_eq!(rt; parse(b"load ").err(), Some(Mistake::NoFile));
-    assert_eq!(rt; parse(b"proofread ").err(), Some(Mistake::NoRule));
-    assert_eq!(rt; parse(b"proofread x").err(), Some(Mistake::NoDecimal(b'x')));
 }

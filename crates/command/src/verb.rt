@@ -11,7 +11,6 @@ pub enum Verb {
     Manual,
     Load,
     Check,
-    Proofread,
     Help,
 }
 
@@ -26,8 +25,6 @@ impl Verb {
             Some(Verb::Load)
         } else if same(word, b"check") {
             Some(Verb::Check)
-        } else if same(word, b"proofread") {
-            Some(Verb::Proofread)
         } else if same(word, b"help") {
             Some(Verb::Help)
         } else {

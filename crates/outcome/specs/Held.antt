@@ -1,5 +1,5 @@
 -- What the code holds, in the words of the definitions.
-use Rattle.std.specs.Prelude.{ℕ, map, take, Some, None, Option}
+use Rattle.std.specs.Prelude.{ℕ, map, take}
 use Rattle.outcome.specs.declared.value.Value.{Value}
 use Rattle.outcome.specs.declared.value.Value
 use Rattle.outcome.specs.declared.value.Bindings as Declared
@@ -18,15 +18,7 @@ given Value.NotReady = not_ready
 abbrev pub bound_of : Declared.Bindings → Bindings
 bound_of b = map given (take b.count b.values)
 
-abbrev pub bound_by : Option Declared.Bindings → Option Bindings
-bound_by (Some b) = Some (bound_of b)
-bound_by None = None
-
 -- What an action of the code gives.
 abbrev pub done_of : Done → Given Writes
 done_of (Done.Ready w) = ready (meaning w)
 done_of Done.NotReady = not_ready
-
-abbrev pub given_by : Option Done → Option (Given Writes)
-given_by (Some d) = Some (done_of d)
-given_by None = None

@@ -1,7 +1,8 @@
 pub mod Writes
 pub mod Kept
-pub mod Gives
+pub mod Working
 pub mod Held
+pub mod Workers
 pub mod Outcome
 pub mod Rules
 pub mod Laws

@@ -48,7 +48,7 @@ value_or None d = d
 abbrev pub reading : List ℕ → Writes → ℕ → ℕ
 reading values so_far r = value_or (so_far r) (slice_index values r)
 
--- The registers below n that are written, as a number: the bit of value 2 to the rth Stands for register r.
+-- The registers below n that are written, as a number: the bit of value 2 to the rth stands for register r.
 unfoldable pub mask_below : ℕ → Writes → ℕ
 mask_below zero w = 0
 mask_below (suc n) w = cond (is_write (w n)) (mask_below n w + 2 ^ n) (mask_below n w)

@@ -1,13 +1,13 @@
 // Writes, or that an action is not ready.
 
-ghost use Rattle.std.specs.Prelude.{◌≡◌};
-ghost use Rattle.outcome.specs.Held.{given, done_of, given_by};
+ghost use Rattle.std.specs.Prelude.{◌≡◌, ◌<◌};
+ghost use Rattle.outcome.specs.Held.{given, done_of};
 ghost use Rattle.outcome.specs.Kept.{meaning};
 ghost use Rattle.outcome.specs.Outcome.{or_none};
-ghost use Rattle.outcome.specs.Gives.{update_gives, if_gives, when_gives, parallel_gives, sequence_gives, so_far_behind};
+ghost use Rattle.outcome.specs.Working.{update_gives, if_gives, when_gives, parallel_gives, sequence_gives, so_far_behind};
 
 use crate::value::Value;
-use crate::writes::{Kept, MAX_REGISTERS};
+use crate::writes::Kept;
 
 /// What an action gives.
 #[derive(Clone, Copy)]
@@ -17,21 +17,19 @@ pub enum Done {
 }
 
 impl Done {
-    /// One write, where its value is ready; nothing where no register has that number.
-    pub fn update(register: usize, value: Value) -> Option<Done>
-        ensures { given_by result ≡ update_gives register (given value) }
+    /// One write, where its value is ready.
+    pub(crate) fn update(register: usize, value: Value) -> Done
+        requires { register < 64 }
+        ensures { done_of result ≡ update_gives register (given value) }
     {
-        if register >= MAX_REGISTERS {
-            return None;
-        }
         match value {
-            Value::Ready(value) => Some(Done::Ready(Kept::one(register, value))),
-            Value::NotReady => Some(Done::NotReady),
+            Value::Ready(value) => Done::Ready(Kept::one(register, value)),
+            Value::NotReady => Done::NotReady,
         }
     }
 
     /// This where the truth is 1, and no writes where it is 0.
-    pub fn where_true(self, truth: Value) -> Done
+    pub(crate) fn where_true(self, truth: Value) -> Done
         ensures { done_of result ≡ if_gives (given truth) (done_of self) }
     {
         match truth {
@@ -42,7 +40,7 @@ impl Done {
     }
 
     /// This where the truth is 1, and else not ready.
-    pub fn guarded(self, truth: Value) -> Done
+    pub(crate) fn guarded(self, truth: Value) -> Done
         ensures { done_of result ≡ when_gives (done_of self) (given truth) }
     {
         match truth {
@@ -53,7 +51,7 @@ impl Done {
     }
 
     /// Both branches of a parallel action.
-    pub fn beside(self, other: Done) -> Done
+    pub(crate) fn beside(self, other: Done) -> Done
         ensures { done_of result ≡ parallel_gives (done_of self) (done_of other) }
     {
         match (self, other) {
@@ -67,21 +65,21 @@ impl Done {
     }
 
     /// Both actions of a sequence.
-    pub fn then(self, second: Done) -> Done
+    pub(crate) fn then(self, second: Done) -> Done
         ensures { done_of result ≡ sequence_gives (done_of self) (done_of second) }
     {
         match (self, second) {
             (Done::Ready(first), Done::Ready(second)) => {
-                let mut all = first;
-                all.put(&second);
-                Done::Ready(all)
+                let mut both = first;
+                both.put(&second);
+                Done::Ready(both)
             }
             _ => Done::NotReady,
         }
     }
 
     /// The writes so far with these over them.
-    pub fn over(self, so_far: &Kept) -> Kept
+    pub(crate) fn over(self, so_far: &Kept) -> Kept
         ensures { meaning result ≡ so_far_behind (meaning so_far.now) (done_of self) }
     {
         let mut all = *so_far;
@@ -92,7 +90,7 @@ impl Done {
     }
 
     /// These writes, or none where not ready.
-    pub fn or_none(self) -> Done
+    pub(crate) fn or_none(self) -> Done
         ensures { done_of result ≡ or_none (done_of self) }
     {
         match self {

@@ -1,6 +1,20 @@
-// What the nodes of a rule give: values, writes, or that they are not ready.
+// What a rule gives on given values of the registers.
+
+ghost use Rattle.outcome.specs.Laws.{RulesAgree, WorkedCases, NoDoubleWrite, BranchesAlone, FailureKeepsNothing, BranchesExchange};
 
 pub mod done;
 pub mod operator;
-pub mod value;
+mod value;
+pub mod worker;
 pub mod writes;
+
+/// Says, by its contract alone, what holds of the meaning of rules: the operational rules and the definition agree, the worked
+/// cases come out as they should, and the readings that go astray are ruled out.
+pub fn meaning_stands()
+    ensures agree { RulesAgree }
+    ensures cases { WorkedCases }
+    ensures no_double_write { NoDoubleWrite }
+    ensures branches_alone { BranchesAlone }
+    ensures failure_keeps_nothing { FailureKeepsNothing }
+    ensures branches_exchange { BranchesExchange }
+{}

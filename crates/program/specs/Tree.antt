@@ -41,7 +41,7 @@ pub record Register : Type 0 where
   pub kind : Kind
   pub initial : ℕ
 
--- An entry of the schedule: a rule, and a mask of the rules that block it, in which 2 ^ i Stands for rule i.
+-- An entry of the schedule: a rule, and a mask of the rules that block it, in which 2 ^ i stands for rule i.
 pub record Entry : Type 0 where
   pub rule : ℕ
   pub blockers : ℕ

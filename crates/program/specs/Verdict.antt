@@ -8,7 +8,7 @@ use Rattle.program.specs.declared.examine.Counts.{Counts}
 use Rattle.terms.specs.Kinds.{kind_of, fits}
 use Rattle.tree.specs.Reading.{fault, and_then, or_fault, Read, Passed, place, tree}
 
--- What Stands where a record may begin: one of the three marks with what is behind it, two other bytes, or less than two.
+-- What stands where a record may begin: one of the three marks with what is behind it, two other bytes, or less than two.
 pub data Opening : Type 0 where
   register : List ℕ → Opening
   rule : List ℕ → Opening

@@ -20,7 +20,7 @@ use Rattle.proofread.specs.declared.Finding.TheVariants.{Ready, NotReady}
 abbrev pub Read : Type 0
 Read = Says (Given ℕ) × List ℕ
 
--- What a finding of the code Stands for.
+-- What a finding of the code stands for.
 abbrev pub finding : Finding → Given ℕ
 finding (Ready m) = ready m
 finding NotReady = not_ready

@@ -1,4 +1,4 @@
--- Proofreading as it goes over the bytes. It is said for all bytes; where no record Stands there is nothing.
+-- Proofreading as it goes over the bytes. It is said for all bytes; where no record stands there is nothing.
 use Rattle.std.specs.Prelude.{ℕ, zero, suc, cond, List, [], ◌∷◌, Some, None, Ok, Err, Option, Result, nat_lt}
 use Rattle.std.specs.Borrow.{Bor}
 use Rattle.terms.specs.declared.refusal.Fault.{Fault}
@@ -14,7 +14,7 @@ use Rattle.outcome.specs.Outcome.{Given, not_ready}
 use Rattle.worker.specs.Working.{body_worked}
 use Rattle.proofread.specs.Proofreading.{Read, found}
 
--- What is behind the registers, where no other register Stands there.
+-- What is behind the registers, where no other register stands there.
 abbrev pub no_more : {A : Type 0} → Option A → List ℕ → Option (List ℕ)
 no_more (Some r) s = None
 no_more None s = Some s

@@ -1,37 +1,20 @@
 -- What a session answers to a line, and which manual it has afterwards. A manual is the list of its bytes.
-use Rattle.std.specs.Prelude.{◌≡◌, ℕ, ◌⊎◌, List, length, Some, None, Ok, Err, vec_items, Option, Result, Vec}
-use Rattle.std.specs.declared.alloc.Global.{Global}
+use Rattle.std.specs.Prelude.{◌≡◌, ℕ, ◌⊎◌, List, length, Some, None, Ok, Err, Option, Result}
 use Rattle.program.specs.declared.examine.Counts.{Counts}
 use Rattle.terms.specs.declared.refusal.Fault.{Fault}
-use Rattle.terms.specs.Refusals.{number}
-use Rattle.terms.specs.Answers.{Says, answers, refuses}
 use Rattle.program.specs.Verdict.{verdict}
-use Rattle.outcome.specs.Outcome.{Given, ready, not_ready}
-use Rattle.proofread.specs.Proofreading.{proofreading}
 use Rattle.command.specs.declared.mistake.Mistake.{Mistake}
 use Rattle.command.specs.declared.mistake.Mistake.TheVariants.{Memory}
 use Rattle.command.specs.Digits.{bytes_of}
-use Rattle.command.specs.Decimals.{numbers_of}
-use Rattle.command.specs.Lines.{Said, manual, load, check, proofread, help}
+use Rattle.command.specs.Lines.{Said, manual, load, check, help}
 use Rattle.reader.specs.declared.answer.Answer.{Answer}
 use Rattle.reader.specs.declared.answer.Reason.{Reason}
-use Rattle.reader.specs.declared.answer.Answer.TheVariants.{Manual, Accepted, Ready, NotReady, Refused, Help, Mistaken, Unread}
+use Rattle.reader.specs.declared.answer.Answer.TheVariants.{Manual, Accepted, Refused, Help, Mistaken, Unread}
 
 -- What the check's verdict is answered by.
 abbrev pub checked : Result Counts Fault → Answer
 checked (Ok counts) = Accepted counts
-checked (Err fault) = Refused (number fault.refusal) (Some fault.place)
-
--- What proofreading is answered by: the values after it are told where the rule is ready.
-abbrev pub Told : Says (Given ℕ) → List ℕ → Answer → Type 0
-Told (answers (ready mask)) values answer = (row : Vec ℕ Global) × (answer ≡ Ready mask row) × (vec_items row ≡ values)
-Told (answers not_ready) values answer = answer ≡ NotReady
-Told (refuses n place) values answer = answer ≡ Refused n place
-
--- A rule of a manual is proofread on the values that numbers stand for, unless they are mistaken.
-abbrev pub Proofread : List ℕ → ℕ → Result (List ℕ) Mistake → Answer → Type 0
-Proofread bytes rule (Ok values) answer = Told (proofreading bytes rule values).0 (proofreading bytes rule values).1 answer
-Proofread bytes rule (Err mistake) answer = answer ≡ Mistaken mistake
+checked (Err fault) = Refused fault
 
 -- The manual becomes the bytes that digits stand for, or stays where they are mistaken.
 abbrev pub SetTo : Result (List ℕ) Mistake → List ℕ → Answer → List ℕ → Type 0
@@ -43,13 +26,12 @@ abbrev pub Loaded : List ℕ → Answer → List ℕ → Type 0
 Loaded old answer new =
     (answer ≡ Manual (length new)) ⊎ ((reason : Reason) × (answer ≡ Unread reason) × (new ≡ old))
 
--- What a command answers, and the manual before and after it. Memory may run out where a manual is set, and for the values.
+-- What a command answers, and the manual before and after it. Memory may run out where a manual is set.
 abbrev pub Obeyed : Said → List ℕ → Answer → List ℕ → Type 0
 Obeyed (manual digits) old answer new =
     ((answer ≡ Mistaken Memory) × (new ≡ old)) ⊎ SetTo (bytes_of digits) old answer new
 Obeyed (load name) old answer new = Loaded old answer new
 Obeyed check old answer new = (answer ≡ checked (verdict old)) × (new ≡ old)
-Obeyed (proofread rule text) old answer new = ((answer ≡ Mistaken Memory) ⊎ Proofread old rule (numbers_of text) answer) × (new ≡ old)
 Obeyed help old answer new = (answer ≡ Help) × (new ≡ old)
 
 -- What a line is answered by. One that gives no command is not answered.

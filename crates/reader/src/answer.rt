@@ -2,25 +2,22 @@
 
 ghost use Rattle.std.specs.Prelude.{◌≡◌, Some, ◌≢◌};
 ghost use Rattle.std.specs.declared.io.ErrorKind.TheVariants.{NotFound, IsADirectory};
-ghost use Rattle.reader.specs.Printed.{printed, why, spaced};
+ghost use Rattle.reader.specs.Printed.{printed, why};
 
 use command::mistake::Mistake;
 use program::examine::Counts;
 use std::{fmt, io};
+use terms::refusal::Fault;
 
 /// What a command has done or found out.
-#[derive(Drop)]
+#[derive(Clone, Copy)]
 pub enum Answer {
     /// The manual was set, and has so many bytes.
     Manual(usize),
     /// The manual passes the check.
     Accepted(Counts),
-    /// The rule is ready, and writes the registers of this mask; the values after that.
-    Ready(u64, Vec<u32>),
-    /// The rule is not ready.
-    NotReady,
-    /// A question was answered no: its number, and the place of the byte at fault, where there is one.
-    Refused(u8, Option<usize>),
+    /// The manual fails the check.
+    Refused(Fault),
     /// The commands are to be listed.
     Help,
     /// The line is no command.
@@ -68,35 +65,17 @@ impl fmt::Display for Answer {
                 f,
                 "accepted, {registers} registers, {rules} rules, {entries} entries"
             ),
-            Answer::Ready(mask, values) => {
-                let row = Row(values.as_slice());
-                write!(f, "ready, writes {mask}, values{row}")
+            Answer::Refused(Fault { refusal, place }) => {
+                let number = refusal.number();
+                write!(f, "refused {number} at {place}")
             }
-            Answer::NotReady => write!(f, "not ready"),
-            Answer::Refused(number, Some(place)) => write!(f, "refused {number} at {place}"),
-            Answer::Refused(number, None) => write!(f, "refused {number}"),
             Answer::Help => write!(
                 f,
-                "commands: manual HEX (white space may stand between pairs of digits) | load FILE | check | proofread RULE V V .. | help"
+                "commands: manual HEX (white space may stand between pairs of digits) | load FILE | check | help"
             ),
             Answer::Mistaken(mistake) => write!(f, "error: {mistake}"),
             Answer::Unread(reason) => write!(f, "error: {reason}"),
         }
-    }
-}
-
-/// Values, each with a space before it.
-#[derive(Clone, Copy)]
-struct Row<'a>(&'a [u32]);
-
-impl fmt::Display for Row<'_> {
-    ghost output = { λ r. Some (spaced r.0.now) };
-
-    fn fmt<W: fmt::Write>(&self, f: &mut fmt::Formatter<W>) -> fmt::Result {
-        for value in self.0 {
-            write!(f, " {value}")?;
-        }
-        Ok(())
     }
 }
 

@@ -9,13 +9,10 @@ ghost use Rattle.reader.specs.Sessions.{checked, Loaded, Obeyed, Answered};
 
 use crate::answer::{Answer, Reason};
 use check::check;
-use command::decimal::numbers;
 use command::hex::decode;
 use command::line::{Command, parse};
-use proofread::{Finding, proofread};
 use std::alloc::Global;
 use std::fs;
-use terms::refusal::Refused;
 
 #[derive(Drop)]
 pub struct Session {
@@ -40,26 +37,7 @@ impl Session {
     {
         match check(self.manual.as_slice()) {
             Ok(counts) => Answer::Accepted(counts),
-            Err(fault) => Answer::Refused(fault.refusal.number(), Some(fault.place)),
-        }
-    }
-
-    /// Works a rule out on the values that numbers in a text stand for.
-    fn proofread(&self, rule: u32, text: &[u8]) -> Answer
-        ensures { Obeyed (Lines.proofread rule text.now) self.now.manual.items result self.now.manual.items }
-    {
-        let mut values = match numbers(self.heap, text) {
-            Ok(values) => values,
-            Err(mistake) => return Answer::Mistaken(mistake),
-        };
-        match proofread(self.manual.as_slice(), rule as usize, values.as_mut_slice()) {
-            Ok(Finding::Ready(mask)) => Answer::Ready(mask, values),
-            Ok(Finding::NotReady) => Answer::NotReady,
-            Err(Refused::Program(fault)) => Answer::Refused(
-                fault.refusal.number(),
-                Some(fault.place),
-            ),
-            Err(refused) => Answer::Refused(refused.number(), None),
+            Err(fault) => Answer::Refused(fault),
         }
     }
 
@@ -84,7 +62,6 @@ impl Session {
                 Err(_) => Answer::Unread(Reason::Other),
             },
             Command::Check => self.check(),
-            Command::Proofread(rule, values) => self.proofread(rule, values),
             Command::Help => Answer::Help,
         }
     }

@@ -15,7 +15,7 @@ refused_place (Program f) = Some f.place
 refused_place Rule = None
 refused_place Values = None
 
--- What a result of the code Stands for, where `of` says what its answers stand for.
+-- What a result of the code stands for, where `of` says what its answers stand for.
 abbrev pub stands_for : {A B : Type 0} → (A → B) → Result A Refused → Says B
 stands_for of (Ok x) = answers (of x)
 stands_for of (Err e) = refuses (refused_number e) (refused_place e)

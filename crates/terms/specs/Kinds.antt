@@ -4,12 +4,12 @@ use Rattle.terms.specs.declared.kind.Kind.{Kind}
 use Rattle.terms.specs.declared.kind.Kind.TheVariants.{Truth, Word}
 use Rattle.terms.specs.declared.kind.Operator.{Operator}
 
--- The byte that Stands for a kind.
+-- The byte that stands for a kind.
 abbrev pub kind_byte : Kind → ℕ
 kind_byte Truth = 0
 kind_byte Word = 1
 
--- The kind that a byte Stands for.
+-- The kind that a byte stands for.
 abbrev pub kind_of : ℕ → Option Kind
 kind_of b = cond (b == 0) (Some Truth) (cond (b == 1) (Some Word) None)
 

@@ -1,4 +1,4 @@
--- Refusals. Each Stands for one question that was answered no, and is shown to people by that question's number.
+-- Refusals. Each stands for one question that was answered no, and is shown to people by that question's number.
 use Rattle.std.specs.Prelude.{ℕ}
 use Rattle.terms.specs.declared.refusal.Refusal.{Refusal}
 use Rattle.terms.specs.declared.refusal.Fault.{Fault}

@@ -27,20 +27,3 @@ returns-in-LoneDigit-clause-writes g c = rw c.in-LoneDigit.is (search rules)
 
 pub returns-in-Memory-clause-writes : goal.returns-in-Memory-clause-writes
 returns-in-Memory-clause-writes g c = rw c.in-Memory.is (search rules)
-
-pub returns-in-NoRule-clause-writes : goal.returns-in-NoRule-clause-writes
-returns-in-NoRule-clause-writes g c = rw c.in-NoRule.is (search rules)
-
-pub returns-in-NoDecimal-clause-writes : goal.returns-in-NoDecimal-clause-writes
-returns-in-NoDecimal-clause-writes g c =
-    let h : is_ascii_graphic c.in-NoDecimal.byte ≡ true = sym c.if-is-ascii-graphic-2.ensures.value in
-    rw c.in-NoDecimal.is (rw h (rw c.from-shown-in-NoDecimal.ensures at c.write-in-NoDecimal.ensures.writes))
-
-pub returns-in-NoDecimal-2-clause-writes : goal.returns-in-NoDecimal-2-clause-writes
-returns-in-NoDecimal-2-clause-writes g c =
-    let e : c.in-NoDecimal.byte ≡ c.in-NoDecimal-2.byte = cc in
-    let h : is_ascii_graphic c.in-NoDecimal-2.byte ≡ false = rw e at (sym c.if-is-ascii-graphic-2.ensures.value) in
-    rw c.in-NoDecimal-2.is (rw h c.write-in-NoDecimal-2.ensures.writes)
-
-pub returns-in-TooLarge-clause-writes : goal.returns-in-TooLarge-clause-writes
-returns-in-TooLarge-clause-writes g c = rw c.in-TooLarge.is (search rules)

@@ -1,4 +1,0 @@
-use Rattle.worker.proofs.body.Worker.+value.Given as goal
-
-abbrev pub decreases-value : goal.decreases-value
-decreases-value l = l.depth
