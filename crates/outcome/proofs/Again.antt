@@ -6,7 +6,7 @@ use Rattle.terms.specs.declared.kind.Kind.TheVariants.{Truth, Word}
 use Rattle.program.specs.Tree.{Expr, Fetch, Constant, Variable, Operate, Choose, Guard, Let, Action, Assign, If, Parallel, Sequence, When, LetIn, Local}
 use Rattle.program.specs.Encoding.{expr_bytes, action_bytes}
 use Rattle.program.specs.Typing.{WellTyped, GoodRule, deep, depth, lets, lets_in}
-use Rattle.check.proofs.Accepts.{four_again}
+use Rattle.checker.proofs.Accepts.{four_again}
 use Rattle.outcome.specs.Writes.{Writes, no_writes, over}
 use Rattle.outcome.specs.Outcome.{Given, ready, not_ready, and_ready, Bindings, value, writes, outcome}
 use Rattle.outcome.specs.Working.{value_worked, writes_worked, so_far_behind, sequence_gives, body_worked}

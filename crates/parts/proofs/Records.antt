@@ -6,7 +6,7 @@ use Rattle.program.specs.Tree.{Action, Register}
 use Rattle.program.specs.Encoding.{action_bytes, rule_bytes, register_bytes}
 use Rattle.program.specs.Decoding.{and_some, register_of}
 use Rattle.program.proofs.Parts.{behind}
-use Rattle.check.proofs.Accepts.{action_front, four_again, kind_again}
+use Rattle.checker.proofs.Accepts.{action_front, four_again, kind_again}
 use Rattle.parts.specs.Parts.{parted, body_of}
 
 pub register_as : (s : List ℕ) → 7 ≤ length s → get_or s 0 0 ≡ 82 → get_or s 1 0 ≡ 71 →

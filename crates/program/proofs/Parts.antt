@@ -1,10 +1,11 @@
 -- A slice that a pattern has taken apart, as a list, and what the definitions make of it.
-use Rattle.std.proofs.Common.{◌≡◌, ℕ, ◌+◌, ◌-◌, ◌*◌, ◌^◌, ◌≤◌, cond, ltb, List, [], ◌∷◌, length, get_or, take, drop, Some, Ok, Err, sym, ap, arith}
+use Rattle.std.proofs.Common.{◌≡◌, ℕ, ◌+◌, ◌-◌, ◌*◌, ◌^◌, ◌≤◌, cond, ltb, le-leb, List, [], ◌∷◌, length, get_or, take, drop, Some, Ok, Err, refl, sym, ap, arith}
 use Rattle.std.proofs.lemmas.List.{take_rest}
-use Rattle.terms.specs.declared.refusal.Refusal.TheVariants.{Missing, Sort, Name}
+use Rattle.terms.specs.declared.refusal.Refusal.TheVariants.{Missing, Sort, Name, Fill}
+use Rattle.terms.specs.declared.refusal.Fault.{Fault}
 use Rattle.terms.specs.declared.kind.Kind.{Kind}
 use Rattle.terms.specs.Kinds.{kind_of, fits}
-use Rattle.tree.specs.Reading.{fault, and_then, or_fault, place}
+use Rattle.tree.specs.Reading.{fault, and_then, or_fault, place, tree}
 use Rattle.program.specs.Verdict.{opening_of, marked, four_of, register_of, rule_of, entry_of, body_at}
 
 -- What a pattern `rest @ ..` behind n bytes holds.
@@ -47,3 +48,8 @@ pub rule_as : (end : ℕ) (kinds : List Kind) (s : List ℕ) → 2 ≤ length s 
 rule_as end kinds [] h = absurd (omega arith)
 rule_as end kinds (a ∷ []) h = absurd (omega arith)
 rule_as end kinds (a ∷ (b ∷ s)) h = rw (take_rest (a ∷ (b ∷ s)) 2)
+
+-- A body that is all there, and whose tree is at fault.
+pub body_whole : (end : ℕ) (kinds : List Kind) (n : ℕ) (s : List ℕ) (f : Fault) → n ≤ length s →
+    tree (record { end = place end (drop n s); kinds = kinds; short = Fill }) (take n s) ≡ Err f → body_at end kinds n s ≡ Err f
+body_whole end kinds n s f h t = rw (le-leb n (length s) h, t) refl

@@ -4,7 +4,6 @@ use Rattle.std.specs.Borrow.{Bor}
 use Rattle.terms.specs.declared.refusal.Fault.{Fault}
 use Rattle.terms.specs.declared.kind.Kind.{Kind}
 use Rattle.program.specs.declared.record.Opening.{Opening}
-use Rattle.program.specs.declared.record.Opening
 use Rattle.tree.specs.Reading.{Read, Passed}
 use Rattle.program.specs.Verdict as Verdict
 

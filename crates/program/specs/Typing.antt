@@ -1,7 +1,7 @@
 -- Which programs are well formed: every name names something, every part has the kind that is wanted there, and all is within the limits.
 use Rattle.std.specs.Prelude.{◌≡◌, ℕ, ◌+◌, ◌^◌, ◌<◌, ◌≤◌, max, true, List, [], ◌∷◌, ◌++◌, map, length, slice_index_or}
 use Rattle.terms.specs.declared.kind.Kind.{Kind}
-use Rattle.terms.specs.declared.kind.Kind.TheVariants.{Truth, Word}
+use Rattle.terms.specs.declared.kind.Kind.TheVariants.{Truth}
 use Rattle.terms.specs.Kinds.{fits, takes, gives}
 use Rattle.program.specs.Tree.{Expr, Fetch, Constant, Variable, Operate, Choose, Guard, Let, Action, Assign, If, Parallel, Sequence, When, LetIn, Local, Register, Entry, Program}
 use Rattle.program.specs.Encoding.{encode}

@@ -1,6 +1,6 @@
 -- What the check answers for every string of bytes: how many registers, rules and entries it has, or its first fault.
 -- A program is a row of records, each opened by a mark of two bytes: registers, then rules, then entries.
-use Rattle.std.specs.Prelude.{ℕ, zero, suc, ◌+◌, ◌*◌, ◌^◌, Bool, true, false, cond, List, [], ◌∷◌, ◌++◌, length, take, drop, Some, None, Ok, Err, Option, Result, ◌==◌, nat_le, nat_lt}
+use Rattle.std.specs.Prelude.{ℕ, zero, suc, ◌+◌, ◌*◌, ◌^◌, cond, List, [], ◌∷◌, ◌++◌, length, take, drop, Some, None, Ok, Err, Option, Result, ◌==◌, nat_le, nat_lt}
 use Rattle.terms.specs.declared.refusal.Refusal.TheVariants.{Length, Missing, Order, Count, Sort, Name, Fill}
 use Rattle.terms.specs.declared.refusal.Fault.{Fault}
 use Rattle.terms.specs.declared.kind.Kind.{Kind}

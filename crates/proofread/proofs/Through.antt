@@ -11,8 +11,8 @@ use Rattle.program.specs.Encoding.{action_bytes, register_bytes, rule_bytes, ent
 use Rattle.program.specs.Typing.{All, kinds_of, GoodRule, SomeUpTo, WellFormed}
 use Rattle.program.specs.Decoding.{register_of, program_of}
 use Rattle.program.specs.Verdict.{verdict}
-use Rattle.check.specs.Accepted.{Bytes}
-use Rattle.check.proofs.Decoded.{decoded}
+use Rattle.checker.specs.Accepted.{Bytes}
+use Rattle.checker.proofs.Decoded.{decoded}
 use Rattle.parts.proofs.Records.{register_again, body_again}
 use Rattle.outcome.specs.Outcome.{outcome}
 use Rattle.worker.proofs.Again as Again

@@ -7,7 +7,7 @@ ghost use Rattle.terms.specs.Answers.{stands_for};
 ghost use Rattle.proofread.specs.Proofreading.{finding, proofreading};
 ghost use Rattle.proofread.specs.Steps.{fitting, body_at, worked_at, read_through, bytes_of};
 
-use check::check;
+use checker::check;
 use outcome::done::Done;
 use parts::{take_register, take_rule};
 use terms::refusal::{Fault, Refused};

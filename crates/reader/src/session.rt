@@ -8,7 +8,7 @@ ghost use Rattle.command.specs.Lines as Lines;
 ghost use Rattle.reader.specs.Sessions.{checked, Loaded, Obeyed, Answered};
 
 use crate::answer::{Answer, Reason};
-use check::check;
+use checker::check;
 use command::hex::decode;
 use command::line::{Command, parse};
 use std::alloc::Global;

@@ -1,9 +1,7 @@
 -- The byte that opens each node of a rule's tree.
 use Rattle.std.specs.Prelude.{ℕ, cond, Some, None, Option, ◌==◌}
 use Rattle.terms.specs.declared.node.ValueNode.{ValueNode}
-use Rattle.terms.specs.declared.node.ValueNode
 use Rattle.terms.specs.declared.node.ActionNode.{ActionNode}
-use Rattle.terms.specs.declared.node.ActionNode
 
 -- The nodes that give a value.
 abbrev pub value_node : ℕ → Option ValueNode

@@ -1,4 +1,5 @@
 // The body of a rule: one action, a tree of nodes.
+#![tactic(auto)]
 
 pub mod reader;
 mod way;

@@ -1,5 +1,5 @@
 use Rattle.std.proofs.Common.{◌∙◌}
-use Rattle.check.proofs.Decoded.{each}
+use Rattle.checker.proofs.Decoded.{each}
 use Rattle.outcome.proofs.Agree.{rules_agree}
 use Rattle.outcome.proofs.Laws.{worked_cases, no_double_write, branches_alone, failure_keeps_nothing, branches_exchange}
 use Rattle.proofread.proofs.Through.{through}

@@ -1,4 +1,4 @@
-use Rattle.std.proofs.Common.{◌≡◌, ℕ, ◌*◌, ◌/◌, ◌^◌, ◌<◌, Bool, true, false, eqb, ltb, sym, refl, ap, ◌∙◌, div-lt_iff_lt-mul, one-mul, arith, pow_pos, ltb-false, ltb-true, le-ltb, lt-ltb, eq-eqb, ne_eqb}
+use Rattle.std.proofs.Common.{◌≡◌, ℕ, ◌*◌, ◌/◌, ◌^◌, ◌<◌, Bool, true, false, eqb, ltb, sym, refl, ap, ◌∙◌, div-lt_iff_lt-mul, one-mul, arith, pow_pos, ltb-false, ltb-true, eq-eqb, ne_eqb}
 use native.Mathlib.Nat.{div-eq_of_lt}
 use Rattle.program.proofs.record.names_below.Goals as goal
 

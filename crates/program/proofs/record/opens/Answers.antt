@@ -1,4 +1,4 @@
-use Rattle.std.proofs.Common.{◌≤◌, length, rules}
+use Rattle.std.proofs.Common.{rules}
 use Rattle.program.proofs.Parts.{opening_as}
 use Rattle.program.proofs.record.opens.Goals as goal
 

@@ -2,14 +2,14 @@ use Rattle.std.proofs.Common.{rules}
 use Rattle.program.proofs.Steps.{rules_left}
 use Rattle.program.proofs.examine.Records.rules.Goals as goal
 
-pub returns-then-is-empty : goal.returns-then-is-empty
-returns-then-is-empty c = let e = rules_left c.loop-fields.self c.args.kinds.now c.loop-fields.count in search rules
+pub returns-then-is_empty : goal.returns-then-is_empty
+returns-then-is_empty c = let e = rules_left c.loop-fields.self c.args.kinds.now c.loop-fields.count in search rules
 
-pub returns-then-count-ge-MAX-RULES : goal.returns-then-count-ge-MAX-RULES
-returns-then-count-ge-MAX-RULES c = let e = rules_left c.loop-fields.self c.args.kinds.now c.loop-fields.count in search rules
+pub returns-then-count-ge-MAX_RULES : goal.returns-then-count-ge-MAX_RULES
+returns-then-count-ge-MAX_RULES c = let e = rules_left c.loop-fields.self c.args.kinds.now c.loop-fields.count in search rules
 
-pub returns-in-err-self : goal.returns-in-err-self
-returns-in-err-self c = let e = rules_left c.loop-fields.self c.args.kinds.now c.loop-fields.count in search rules
+pub returns-in_err-self : goal.returns-in_err-self
+returns-in_err-self c = let e = rules_left c.loop-fields.self c.args.kinds.now c.loop-fields.count in search rules
 
 pub loop-fields-preserved : goal.loop-fields-preserved
 loop-fields-preserved c = let e = rules_left c.loop-fields.self c.args.kinds.now c.loop-fields.count in search rules

@@ -1,6 +1,5 @@
 use Rattle.std.proofs.Common.{◌<◌, length, refl, rules}
 use Rattle.std.proofs.lemmas.List.{take_more_set}
-use Rattle.tree.specs.Ways.{scope_of}
 use Rattle.tree.proofs.way.Way.bind.Goals as goal
 
 pub returns : goal.returns

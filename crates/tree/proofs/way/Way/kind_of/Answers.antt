@@ -1,6 +1,5 @@
 use Rattle.std.proofs.Common.{◌<◌, ◌≤◌, length, take, arith, length-take, get_or-take, rules, le-ltb, lt-ltb}
 use Rattle.terms.specs.declared.kind.Kind.TheVariants.{Truth}
-use Rattle.tree.specs.Ways.{scope_of}
 use Rattle.tree.proofs.way.Way.kind_of.Goals as goal
 
 pub returns-then-number-self : goal.returns-then-number-self

@@ -1,5 +1,4 @@
 use Rattle.std.proofs.Common.{refl}
-use Rattle.tree.specs.Ways.{scope_of}
 use Rattle.tree.proofs.way.Way.to_body.Goals as goal
 
 pub returns : goal.returns

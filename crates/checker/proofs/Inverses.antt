@@ -5,15 +5,13 @@ use Rattle.terms.specs.declared.kind.Kind.{Kind}
 use Rattle.terms.specs.declared.kind.Kind.TheVariants.{Truth, Word}
 use Rattle.terms.specs.declared.kind.Operator.{Operator}
 use Rattle.terms.specs.declared.node.ValueNode.{ValueNode}
-use Rattle.terms.specs.declared.node.ValueNode
 use Rattle.terms.specs.declared.node.ActionNode.{ActionNode}
-use Rattle.terms.specs.declared.node.ActionNode
 use Rattle.terms.specs.Kinds.{kind_of, kind_byte, same, fits, takes, gives, operator_of}
 use Rattle.terms.specs.Nodes.{value_node, action_node}
 use Rattle.tree.specs.Reading.{Body, fault, and_then, or_fault, byte_of, word_of, truth_of, kind_at, operator_at, named_of, wanted_of, suits, value_at, action_at}
 use Rattle.program.specs.Encoding.{four_bytes}
 use Rattle.program.specs.Typing.{Names}
-use Rattle.check.specs.Accepted.{Bytes}
+use Rattle.checker.specs.Accepted.{Bytes}
 
 -- Results and options.
 pub err_ok : {A : Type 0} (e : Fault) (y : A) → ◌≡◌ {A = Result A Fault} (Err e) (Ok y) → ⊥

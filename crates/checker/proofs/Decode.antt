@@ -5,7 +5,7 @@ use Rattle.program.specs.Tree.{Expr, Fetch, Constant, Variable, Operate, Choose,
 use Rattle.program.specs.Encoding.{expr_bytes, action_bytes, register_bytes, rule_bytes, entry_bytes, all_bytes, encode}
 use Rattle.program.specs.Typing.{deep, depth, All, SomeUpTo, GoodRule, kinds_of, WellFormed}
 use Rattle.program.specs.Decoding.{Decoder, expr_of, action_of, register_of, rule_of, entry_of, row_of, program_of}
-use Rattle.check.proofs.Accepts.{kind_again, four_again}
+use Rattle.checker.proofs.Accepts.{kind_again, four_again}
 
 pub expr_again : (e : Expr) (d : ℕ) (s : List ℕ) → deep e ≤ d → expr_of d (expr_bytes e s) ≡ Some (e, s)
 unfolding expr_of

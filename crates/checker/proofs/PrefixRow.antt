@@ -1,9 +1,9 @@
 -- Reading a row of records, beside reading only its first bytes.
-use Rattle.std.proofs.Common.{◌≡◌, ℕ, zero, suc, ◌+◌, ◌-◌, ◌<◌, ◌≤◌, Bool, true, false, cond, eqb, ◌⊎◌, List, [], ◌∷◌, ◌++◌, length, Ok, Err, refl, ap, inl, inr, arith, length-append}
+use Rattle.std.proofs.Common.{◌≡◌, ℕ, zero, suc, ◌+◌, ◌<◌, ◌≤◌, Bool, true, false, cond, eqb, ◌⊎◌, List, [], ◌∷◌, ◌++◌, length, Ok, Err, refl, ap, inl, inr, arith, length-append}
 use Rattle.terms.specs.declared.refusal.Refusal.TheVariants.{Order, Count}
 use Rattle.tree.specs.Reading.{Read, fault, and_then, place}
 use Rattle.program.specs.Verdict.{Opening, register, rule, entry, unknown, cut, marked, opening_of}
-use Rattle.check.proofs.Prefix.{Beyond, Beside, stays, fails, past, beyond_then, late_on, weaken, then_beside, left, behind, further, place_same}
+use Rattle.checker.proofs.Prefix.{Beyond, Beside, stays, fails, past, beyond_then, late_on, weaken, then_beside, left, behind, further, place_same}
 
 -- What two bytes open, whatever is behind them.
 pub data Mark (b c : ℕ) : Type 0 where

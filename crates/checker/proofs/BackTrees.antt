@@ -1,20 +1,18 @@
 -- What is accepted is the encoding of a well-formed program.
-use Rattle.std.proofs.Common.{◌≡◌, ℕ, zero, suc, ◌+◌, ◌-◌, ◌≤◌, true, eqb, List, [], ◌∷◌, ◌++◌, Ok, sym, refl, ap, ◌∙◌, arith}
+use Rattle.std.proofs.Common.{◌≡◌, ℕ, zero, suc, ◌-◌, ◌≤◌, true, eqb, List, [], ◌∷◌, ◌++◌, Ok, sym, refl, ap, ◌∙◌, arith}
 use borrow.Author.Tests.{eqb-false}
 use Rattle.terms.specs.declared.refusal.Refusal.TheVariants.{Nesting}
 use Rattle.terms.specs.declared.kind.Kind.{Kind}
 use Rattle.terms.specs.declared.kind.Kind.TheVariants.{Truth, Word}
 use Rattle.terms.specs.declared.node.ValueNode.{ValueNode}
-use Rattle.terms.specs.declared.node.ValueNode
 use Rattle.terms.specs.declared.node.ActionNode.{ActionNode}
-use Rattle.terms.specs.declared.node.ActionNode
 use Rattle.terms.specs.Kinds.{takes}
 use Rattle.tree.specs.Reading.{Body, fault, place, kind_at, operator_at, named_of, suits, value_at, value_parts, expression, action_at, action_parts, action}
-use Rattle.program.specs.Tree.{Expr, Fetch, Constant, Variable, Operate, Choose, Guard, Let, Action, Assign, If, Parallel, Sequence, When, LetIn, Local, Register}
+use Rattle.program.specs.Tree.{Expr, Fetch, Constant, Variable, Operate, Choose, Guard, Let, Action, Assign, If, Parallel, Sequence, When, LetIn, Local}
 use Rattle.program.specs.Encoding.{expr_bytes, action_bytes}
 use Rattle.program.specs.Typing.{Typed, WellTyped, deep, depth, lets, lets_in, forks}
-use Rattle.check.specs.Accepted.{Bytes}
-use Rattle.check.proofs.Inverses.{err_ok, then_ok, not_ok, same_true, value_code, action_code, word_got, truth_got, kind_got, named_got, wanted_got, operator_got, value_got, action_got}
+use Rattle.checker.specs.Accepted.{Bytes}
+use Rattle.checker.proofs.Inverses.{err_ok, then_ok, not_ok, same_true, value_code, action_code, word_got, truth_got, kind_got, named_got, wanted_got, operator_got, value_got, action_got}
 
 pub positive : (n : ℕ) → (n ≡ 0 → ⊥) → 1 ≤ n
 positive zero h = absurd (h refl)

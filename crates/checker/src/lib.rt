@@ -1,9 +1,10 @@
 // The check of a manual's program, with what its answer means.
+#![tactic(auto)]
 
 ghost use Rattle.std.specs.Prelude.{◌≡◌};
 ghost use Rattle.program.specs.Verdict.{verdict};
-ghost use Rattle.check.specs.Accepted.{Complete, Sound};
-ghost use Rattle.check.specs.First.{NamesFirst};
+ghost use Rattle.checker.specs.Accepted.{Complete, Sound};
+ghost use Rattle.checker.specs.First.{NamesFirst};
 
 use program::examine::{Counts, examine};
 use terms::refusal::Fault;

@@ -7,9 +7,9 @@ use Rattle.terms.specs.declared.refusal.Fault.{Fault}
 use Rattle.terms.specs.declared.kind.Kind.{Kind}
 use Rattle.terms.specs.Kinds.{kind_of, fits}
 use Rattle.tree.specs.Reading.{Body, Read, Passed, fault, and_then, or_fault, place, action, filled, tree}
-use Rattle.program.specs.Verdict.{register, entry, four_of, register_of, rule_of, entry_of, body_at, rules}
-use Rattle.check.proofs.Prefix.{Beyond, Late, Beside, stays, fails, past, late_on, weaken, left, longer, behind, further, place_same, body}
-use Rattle.check.proofs.PrefixTrees.{action_beyond, action_beside}
+use Rattle.program.specs.Verdict.{four_of, register_of, rule_of, entry_of, body_at, rules}
+use Rattle.checker.proofs.Prefix.{Beyond, Late, Beside, stays, fails, past, late_on, weaken, left, longer, behind, further, place_same, body}
+use Rattle.checker.proofs.PrefixTrees.{action_beyond, action_beside}
 
 -- Four bytes are there, whatever comes behind, or not.
 data Four (s : List ℕ) : Type 0 where

@@ -4,14 +4,11 @@ use Rattle.terms.specs.declared.refusal.Refusal.{Refusal}
 use Rattle.terms.specs.declared.refusal.Refusal.TheVariants.{Nesting}
 use Rattle.terms.specs.declared.refusal.Fault.{Fault}
 use Rattle.terms.specs.declared.kind.Kind.{Kind}
-use Rattle.terms.specs.declared.kind.Kind.TheVariants.{Truth, Word}
-use Rattle.terms.specs.declared.kind.Operator.{Operator}
+use Rattle.terms.specs.declared.kind.Kind.TheVariants.{Truth}
 use Rattle.terms.specs.declared.node.ValueNode.{ValueNode}
-use Rattle.terms.specs.declared.node.ValueNode
 use Rattle.terms.specs.declared.node.ActionNode.{ActionNode}
-use Rattle.terms.specs.declared.node.ActionNode
 use Rattle.tree.specs.Reading.{Body, Read, Passed, fault, and_then, place, byte_of, kind_at, operator_at, named_of, value_at, action_at, value_parts, action_parts, expression, action}
-use Rattle.check.proofs.Prefix.{Beyond, Beside, stays, fails, past, OneByte, weaken, beyond_then, late_on, then_beside, then_same, left, longer, behind, further, place_same, one_beyond, one_beside, one_same, body, byte_one, truth_one, kind_one, operator_one, value_one, action_one, named_one, wanted_one}
+use Rattle.checker.proofs.Prefix.{Beyond, Beside, stays, fails, past, OneByte, weaken, beyond_then, late_on, then_beside, then_same, left, longer, behind, further, place_same, one_beyond, one_beside, one_same, body, byte_one, truth_one, kind_one, operator_one, value_one, action_one, named_one, wanted_one}
 
 -- One reader after another, both at rests.
 and_beyond : {A : Type 0} (rest : A → List ℕ) (end : ℕ) (s : List ℕ) (r : Result A Fault) (f : A → Passed) →

@@ -1,5 +1,5 @@
 -- Reading a whole program, beside reading only its first bytes.
-use Rattle.std.proofs.Common.{◌≡◌, ℕ, zero, suc, ◌+◌, ◌-◌, Bool, true, false, cond, eqb, ◌⊎◌, List, [], ◌∷◌, ◌++◌, length, Ok, Err, Result, refl, ap, inl, inr, arith}
+use Rattle.std.proofs.Common.{◌≡◌, ℕ, zero, suc, ◌+◌, Bool, true, false, cond, eqb, ◌⊎◌, List, [], ◌∷◌, ◌++◌, length, Ok, Err, Result, refl, ap, inl, inr, arith}
 use mathlib.Core.Path.{fun_ext}
 use Rattle.terms.specs.declared.refusal.Refusal.TheVariants.{Missing, Order}
 use Rattle.terms.specs.declared.refusal.Fault.{Fault}
@@ -7,9 +7,9 @@ use Rattle.program.specs.declared.examine.Counts.{Counts}
 use Rattle.terms.specs.declared.kind.Kind.{Kind}
 use Rattle.tree.specs.Reading.{Read, fault, and_then, place}
 use Rattle.program.specs.Verdict.{Opening, marked, opening_of, on_register, on_rule, on_entry, register_of, rule_of, entry_of, registers, rules, entries, ended, records_of}
-use Rattle.check.proofs.Prefix.{Beyond, Beside, stays, fails, past, beyond_then, late_on, then_beside, left, longer, behind, further, place_same}
-use Rattle.check.proofs.PrefixRow.{of_register, of_rule, of_entry, of_none, mark_of, row, row_beyond, row_beside}
-use Rattle.check.proofs.PrefixRecords.{register_beyond, entry_beyond, rule_beyond, register_beside, entry_beside, rule_beside}
+use Rattle.checker.proofs.Prefix.{Beyond, Beside, stays, fails, past, beyond_then, late_on, then_beside, left, longer, behind, further, place_same}
+use Rattle.checker.proofs.PrefixRow.{of_register, of_rule, of_entry, of_none, mark_of, row, row_beyond, row_beside}
+use Rattle.checker.proofs.PrefixRecords.{register_beyond, entry_beyond, rule_beyond, register_beside, entry_beside, rule_beside}
 
 regroup : {A B C : Type 0} (r : Result A Fault) (g : A → B) (h : A → Result C Fault) (k : B → Result C Fault) → ((y : A) → h y ≡ k (g y)) →
     and_then r h ≡ and_then (and_then r (λ y. Ok (g y))) k

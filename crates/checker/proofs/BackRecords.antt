@@ -1,5 +1,5 @@
 -- What is accepted is the encoding of a well-formed program: a record of each sort.
-use Rattle.std.proofs.Common.{◌≡◌, ℕ, zero, suc, ◌+◌, ◌-◌, ◌*◌, ◌/◌, ◌%◌, ◌^◌, ◌<◌, Bool, true, false, cond, ltb, leb, List, [], ◌∷◌, length, take, drop, Some, Ok, Err, sym, refl, ap, ◌∙◌, subst, arith, ltb-true, leb-true}
+use Rattle.std.proofs.Common.{◌≡◌, ℕ, zero, suc, ◌+◌, ◌*◌, ◌/◌, ◌%◌, ◌^◌, ◌<◌, Bool, true, false, cond, ltb, leb, List, [], ◌∷◌, length, take, drop, Some, Ok, Err, sym, refl, ap, ◌∙◌, subst, arith, ltb-true, leb-true}
 use Rattle.std.proofs.lemmas.List.{take-append-drop, length-take-le}
 use Rattle.terms.specs.declared.refusal.Refusal.TheVariants.{Missing, Fill}
 use Rattle.terms.specs.declared.kind.Kind.{Kind}
@@ -8,11 +8,11 @@ use Rattle.tree.specs.Reading.{Body, fault, and_then, or_fault, place, action, f
 use Rattle.program.specs.Tree.{Action, Entry}
 use Rattle.program.specs.Encoding.{two_bytes, four_bytes, action_bytes}
 use Rattle.program.specs.Typing.{GoodRule, GoodEntry}
-use Rattle.program.specs.Verdict.{rule, four_of, register_of, rule_of, entry_of, body_at, rules}
-use Rattle.check.specs.Accepted.{Bytes}
-use Rattle.check.proofs.Accepts.{action_front}
-use Rattle.check.proofs.Inverses.{err_ok, ok_ok, none_some, some_some, then_ok, cond_ok, or_ok, kind_byte_only, four_bytes_of}
-use Rattle.check.proofs.BackTrees.{action_done}
+use Rattle.program.specs.Verdict.{four_of, register_of, rule_of, entry_of, body_at, rules}
+use Rattle.checker.specs.Accepted.{Bytes}
+use Rattle.checker.proofs.Accepts.{action_front}
+use Rattle.checker.proofs.Inverses.{err_ok, ok_ok, none_some, some_some, then_ok, cond_ok, or_ok, kind_byte_only, four_bytes_of}
+use Rattle.checker.proofs.BackTrees.{action_done}
 
 all_take : (n : ℕ) (s : List ℕ) → Bytes s → Bytes (take n s)
 all_take zero s all = tt

@@ -1,13 +1,13 @@
 -- What the answer for a faulty program depends on: the bytes up to the fault.
-use Rattle.std.proofs.Common.{◌≡◌, ℕ, ◌+◌, ◌-◌, ◌<◌, ◌≤◌, min, Bool, true, false, cond, ltb, List, ◌++◌, length, take, drop, Ok, Err, Result, sym, refl, ap, ◌∙◌, subst, arith, length-append, length-take, ltb-false, ltb-true, le-ltb}
+use Rattle.std.proofs.Common.{◌≡◌, ℕ, ◌+◌, ◌<◌, ◌≤◌, min, Bool, true, false, cond, ltb, List, ◌++◌, length, take, drop, Ok, Err, Result, sym, refl, ap, ◌∙◌, subst, arith, length-append, length-take, ltb-false, ltb-true, le-ltb}
 use Rattle.std.proofs.lemmas.List.{take-append-drop, take-take, take_all, length-take-le}
 use Rattle.terms.specs.declared.refusal.Refusal.TheVariants.{Length}
 use Rattle.terms.specs.declared.refusal.Fault.{Fault}
 use Rattle.program.specs.declared.examine.Counts.{Counts}
-use Rattle.tree.specs.Reading.{fault, place}
+use Rattle.tree.specs.Reading.{fault}
 use Rattle.program.specs.Verdict.{records_of, verdict}
-use Rattle.check.proofs.Prefix.{Beyond, Late, Beside, stays, fails, past}
-use Rattle.check.proofs.PrefixProgram.{records_beyond, records_beside, nothing, as_is}
+use Rattle.checker.proofs.Prefix.{Beyond, Late, Beside, stays, fails, past}
+use Rattle.checker.proofs.PrefixProgram.{records_beyond, records_beside, nothing, as_is}
 
 -- A program of no more bytes than it may have is judged by its records.
 by_records : (s : List ℕ) → length s ≤ 16384 → verdict s ≡ records_of (length s) s

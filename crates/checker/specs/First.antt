@@ -1,7 +1,6 @@
 -- What it means that a fault is the first one. A fault is a byte, or the first byte of a mark, a value or a mask, which have at
 -- most four bytes. So what lies behind the four bytes from the fault on cannot matter, and what lies before it is not at fault.
 use Rattle.std.specs.Prelude.{◌≡◌, ℕ, ◌+◌, ◌<◌, ◌≤◌, List, length, take, Err, Result}
-use Rattle.terms.specs.declared.refusal.Refusal.TheVariants.{Length}
 use Rattle.terms.specs.declared.refusal.Fault.{Fault}
 use Rattle.program.specs.declared.examine.Counts.{Counts}
 use Rattle.program.specs.Verdict.{verdict}

@@ -11,7 +11,7 @@ use Rattle.tree.specs.Reading.{Body, Read, place, expression, action}
 use Rattle.program.specs.Tree.{Expr, Fetch, Constant, Variable, Operate, Choose, Guard, Let, Action, Assign, If, Parallel, Sequence, When, LetIn, Local, Register, Entry, Program}
 use Rattle.program.specs.Encoding.{two_bytes, four_bytes, expr_bytes, action_bytes, register_bytes, rule_bytes, entry_bytes, all_bytes, encode}
 use Rattle.program.specs.Typing.{Typed, WellTyped, deep, depth, lets, lets_in, forks, All, kinds_of, GoodRegister, GoodRule, GoodEntry, SomeUpTo, WellFormed}
-use Rattle.check.specs.Accepted.{counts}
+use Rattle.checker.specs.Accepted.{counts}
 use Rattle.program.specs.Verdict.{opening_of, on_register, on_rule, on_entry, register_of, rule_of, entry_of, registers, rules, entries, records_of, verdict}
 
 same_kind : (k : Kind) → same k k ≡ true

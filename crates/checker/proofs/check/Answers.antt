@@ -1,16 +1,16 @@
 use Rattle.std.proofs.Common.{sym, ap, ◌∙◌}
 use Rattle.program.specs.Decoding.{program_of}
 use Rattle.program.specs.Verdict.{verdict}
-use Rattle.check.proofs.Accepts.{accepts}
-use Rattle.check.proofs.Decode.{decodes}
-use Rattle.check.proofs.Decoded.{each, decoded}
-use Rattle.check.proofs.First.{inside, decided, clear_before}
-use Rattle.check.proofs.check.Goals as goal
+use Rattle.checker.proofs.Accepts.{accepts}
+use Rattle.checker.proofs.Decode.{decodes}
+use Rattle.checker.proofs.Decoded.{each, decoded}
+use Rattle.checker.proofs.First.{inside, decided, clear_before}
+use Rattle.checker.proofs.check.Goals as goal
 
 pub returns : goal.returns
 returns c = record {
   is = c.examine.ensures;
-  sound = λ n ok. decoded c.args.bytes.now n (each c.args.bytes.now c.type-inv.bytes) (sym c.examine.ensures ∙ ok);
+  sound = λ n ok. decoded c.args.bytes.now n (each c.args.bytes.now c.type_inv.bytes) (sym c.examine.ensures ∙ ok);
   complete = λ p e.
       (c.examine.ensures ∙ ap verdict e.1 ∙ accepts p e.0, sym (decodes p e.0) ∙ ap program_of (sym e.1));
   first = λ f bad.

@@ -1,5 +1,5 @@
 -- What is accepted is the encoding of a well-formed program: rows of records, and the whole.
-use Rattle.std.proofs.Common.{◌≡◌, ℕ, zero, suc, ◌+◌, ◌-◌, ◌≤◌, Bool, true, false, eqb, ltb, List, [], ◌∷◌, ◌++◌, length, Ok, sym, refl, ap, ◌∙◌, subst, append_assoc, append-nil, add-zero, arith, ltb-false, eqb-true}
+use Rattle.std.proofs.Common.{◌≡◌, ℕ, zero, suc, ◌+◌, ◌≤◌, Bool, true, false, eqb, ltb, List, [], ◌∷◌, ◌++◌, length, Ok, sym, refl, ap, ◌∙◌, subst, append_assoc, append-nil, add-zero, arith, ltb-false, eqb-true}
 use lib.ListN.{length-map}
 use borrow.Author.Tests.{eqb-false}
 use Rattle.terms.specs.declared.refusal.Refusal.TheVariants.{Missing, Order, Count}
@@ -10,10 +10,10 @@ use Rattle.program.specs.Tree.{Action, Register, Entry, Program}
 use Rattle.program.specs.Encoding.{register_bytes, rule_bytes, entry_bytes, all_bytes, encode}
 use Rattle.program.specs.Typing.{All, kinds_of, GoodRegister, GoodRule, GoodEntry, WellFormed}
 use Rattle.program.specs.Verdict.{register, rule, entry, unknown, cut, opening_of, register_of, rule_of, entry_of, registers, rules, entries, ended, records_of, verdict}
-use Rattle.check.specs.Accepted.{Bytes, counts}
-use Rattle.check.proofs.Inverses.{err_ok, ok_ok, then_ok, not_ok}
-use Rattle.check.proofs.BackRecords.{register_got, rule_got, entry_got}
-use Rattle.check.proofs.BackTrees.{positive}
+use Rattle.checker.specs.Accepted.{Bytes, counts}
+use Rattle.checker.proofs.Inverses.{err_ok, ok_ok, then_ok, not_ok}
+use Rattle.checker.proofs.BackRecords.{register_got, rule_got, entry_got}
+use Rattle.checker.proofs.BackTrees.{positive}
 
 -- What stands where a record may begin.
 data Shape (s : List ℕ) : Type 0 where

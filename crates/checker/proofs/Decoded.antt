@@ -4,9 +4,9 @@ use Rattle.program.specs.declared.examine.Counts.{Counts}
 use Rattle.program.specs.Tree.{Program}
 use Rattle.program.specs.Decoding.{program_of}
 use Rattle.program.specs.Verdict.{verdict}
-use Rattle.check.specs.Accepted.{Bytes, Encodes, counts}
-use Rattle.check.proofs.BackRows.{encoded}
-use Rattle.check.proofs.Decode.{decodes}
+use Rattle.checker.specs.Accepted.{Bytes, Encodes, counts}
+use Rattle.checker.proofs.BackRows.{encoded}
+use Rattle.checker.proofs.Decode.{decodes}
 
 -- What the type of a slice says of its elements.
 pub each : (s : List ℕ) → ((i : ℕ) → Fits w8 (get_or s i 0)) → Bytes s
