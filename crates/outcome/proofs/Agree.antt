@@ -1,9 +1,8 @@
 -- The rules and the definition agree: every node has exactly one result by the rules, and the definition gives it.
 use Rattle.std.proofs.Common.{◌≡◌, ℕ, Bool, true, false, cond, eqb, List, [], ◌∷◌, ◌++◌, sym, refl, ap, ◌∙◌, subst, ne_eqb, eqb-true}
 use borrow.Author.Tests.{eqb-false}
-use Rattle.terms.specs.declared.kind.Kind.{Kind}
 use Rattle.program.specs.Tree.{Expr, Fetch, Constant, Variable, Operate, Choose, Guard, Let, Action, Assign, If, Parallel, Sequence, When, LetIn, Local}
-use Rattle.outcome.specs.Writes.{Writes, no_writes, one_write, over, shared, Apart}
+use Rattle.outcome.specs.Writes.{Writes, no_writes, one_write, over, shared}
 use Rattle.outcome.specs.Outcome.{Given, ready, not_ready, and_ready, where_true, operated, Bindings, value, joined, or_none, writes}
 use Rattle.outcome.specs.Rules.{Gives, register_read, constant, variable, operator, operator_left_waits, operator_right_waits, choice_true, choice_false, choice_waits, guard_true, guard_false, guard_waits, let_bound, Does, register_update, update_waits, if_true, if_false, if_waits, when_true, when_false, when_waits, parallel, parallel_twice, parallel_left_waits, parallel_right_waits, sequence, sequence_first_waits, sequence_second_waits, let_action, local_ready, local_waits}
 use Rattle.outcome.proofs.Shared.{apart_below, written_twice, not_shared, is_shared}

@@ -1,8 +1,8 @@
 -- An array of 64 options as a set of writes.
-use Rattle.std.proofs.Common.{◌≡◌, ℕ, suc, ◌+◌, ◌<◌, ◌≤◌, Bool, true, false, cond, eqb, ltb, List, length, get_or, set, replicate, is_some, Some, None, Option, sym, refl, ◌∙◌, add-one, arith, ltb-false, ltb-true, le-ltb, lt-ltb, eq-eqb, ne_eqb, eqb-true}
+use Rattle.std.proofs.Common.{◌≡◌, ℕ, ◌+◌, ◌<◌, Bool, true, false, cond, eqb, ltb, List, length, get_or, set, replicate, is_some, Some, None, Option, refl, add-one, arith, ltb-true, lt-ltb, eqb-true}
 use borrow.Author.Tests.{eqb-false}
-use Rattle.std.proofs.lemmas.List.{get_or-replicate, get_or-set_same, get_or-set_other, length-replicate}
-use Rattle.outcome.specs.Writes.{Writes, or_else, over, is_write, both, shared_below}
+use Rattle.std.proofs.lemmas.List.{get_or-replicate, get_or-set_same, get_or-set_other}
+use Rattle.outcome.specs.Writes.{Writes, is_write, both, shared_below}
 
 -- What an array means at a register.
 abbrev pub at : List (Option ℕ) → Writes

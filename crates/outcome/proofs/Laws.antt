@@ -1,6 +1,5 @@
 -- The laws of parallel actions, sequences and guards.
-use Rattle.std.proofs.Common.{◌≡◌, ℕ, ◌<◌, Bool, true, false, cond, ◌⊎◌, List, Some, None, Option, sym, refl, ap, ◌∙◌, inl, inr, arith}
-use Rattle.program.specs.Tree.{Action}
+use Rattle.std.proofs.Common.{◌≡◌, ℕ, Bool, true, false, cond, ◌⊎◌, Some, None, Option, sym, refl, inl, inr, arith}
 use Rattle.outcome.specs.Writes.{shared_below, Writes, or_else, over, shared}
 use Rattle.outcome.specs.Outcome.{Given, ready, not_ready, and_ready, joined, writes}
 use Rattle.outcome.specs.Laws.{WorkedCases, NoDoubleWrite, BranchesAlone, FailureKeepsNothing, SameWrites, BranchesExchange}

@@ -1,7 +1,7 @@
 -- Whether two sets of writes share a register, as a test and as a statement.
-use Rattle.std.proofs.Common.{◌≡◌, ℕ, zero, suc, ◌<◌, ◌≤◌, Bool, true, false, cond, eqb, ◌⊎◌, Some, None, Option, sym, refl, ◌∙◌, subst, inl, inr, arith, eqb-true}
+use Rattle.std.proofs.Common.{◌≡◌, ℕ, zero, suc, ◌<◌, Bool, true, false, cond, eqb, ◌⊎◌, Some, None, Option, sym, refl, subst, inl, inr, arith, eqb-true}
 use borrow.Author.Tests.{eqb-false}
-use Rattle.outcome.specs.Writes.{Writes, is_write, both, shared_below, shared, Apart}
+use Rattle.outcome.specs.Writes.{Writes, is_write, both, shared_below}
 
 some_none : (v : ℕ) → ◌≡◌ {A = Option ℕ} (Some v) None → ⊥
 some_none v h = let z : ◌≡◌ {A = ℕ} 0 1 = cc in omega arith

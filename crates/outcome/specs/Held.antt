@@ -1,10 +1,8 @@
 -- What the code holds, in the words of the definitions.
 use Rattle.std.specs.Prelude.{ℕ, map, take}
 use Rattle.outcome.specs.declared.value.Value.{Value}
-use Rattle.outcome.specs.declared.value.Value
 use Rattle.outcome.specs.declared.value.Bindings as Declared
 use Rattle.outcome.specs.declared.done.Done.{Done}
-use Rattle.outcome.specs.declared.done.Done
 use Rattle.outcome.specs.Kept.{meaning}
 use Rattle.outcome.specs.Writes.{Writes}
 use Rattle.outcome.specs.Outcome.{Given, ready, not_ready, Bindings}

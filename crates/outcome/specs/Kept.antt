@@ -1,5 +1,5 @@
 -- What a set of writes in the code means: which value is written to which register.
-use Rattle.std.specs.Prelude.{ℕ, cond, None, nat_lt, slice_index_or}
+use Rattle.std.specs.Prelude.{cond, None, nat_lt, slice_index_or}
 use Rattle.outcome.specs.declared.writes.Kept.{Kept}
 use Rattle.outcome.specs.Writes.{Writes}
 

@@ -1,6 +1,6 @@
 -- The operational rules: which value or writes a node gives, by rules from what its parts give. A node whose part is not ready is
 -- not ready itself, except where a rule says otherwise.
-use Rattle.std.specs.Prelude.{◌≡◌, ℕ, ◌<◌, List, [], ◌∷◌, ◌++◌, None, ◌≢◌, slice_index_or}
+use Rattle.std.specs.Prelude.{ℕ, ◌<◌, List, [], ◌∷◌, ◌++◌, None, ◌≢◌, slice_index_or}
 use Rattle.terms.specs.declared.kind.Kind.{Kind}
 use Rattle.program.specs.Tree.{Expr, Fetch, Constant, Variable, Operate, Choose, Guard, Let, Action, Assign, If, Parallel, Sequence, When, LetIn, Local}
 use Rattle.outcome.specs.Writes.{Writes, no_writes, one_write, over, Apart, reading}

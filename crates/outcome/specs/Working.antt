@@ -3,9 +3,7 @@
 use Rattle.std.specs.Prelude.{◌≡◌, ℕ, zero, suc, ◌-◌, ◌≤◌, cond, List, [], ◌∷◌, ◌++◌, length, Some, None, Option, ◌==◌, nat_lt, slice_index_or}
 use Rattle.terms.specs.declared.kind.Kind.{Kind}
 use Rattle.terms.specs.declared.node.ValueNode.{ValueNode}
-use Rattle.terms.specs.declared.node.ValueNode
 use Rattle.terms.specs.declared.node.ActionNode.{ActionNode}
-use Rattle.terms.specs.declared.node.ActionNode
 use Rattle.terms.specs.Nodes.{value_node, action_node}
 use Rattle.program.specs.Tree.{Action}
 use Rattle.program.specs.Encoding.{action_bytes}

@@ -70,9 +70,9 @@ impl Done {
     {
         match (self, second) {
             (Done::Ready(first), Done::Ready(second)) => {
-                let mut both = first;
-                both.put(&second);
-                Done::Ready(both)
+                let mut all = first;
+                all.put(&second);
+                Done::Ready(all)
             }
             _ => Done::NotReady,
         }

@@ -1,4 +1,5 @@
 // What a rule gives on given values of the registers.
+#![tactic(auto)]
 
 ghost use Rattle.outcome.specs.Laws.{RulesAgree, WorkedCases, NoDoubleWrite, BranchesAlone, FailureKeepsNothing, BranchesExchange};
 

@@ -1,4 +1,5 @@
 // The records of a program that the check accepts, taken one by one from the front of its bytes.
+#![tactic(auto)]
 
 ghost use Rattle.std.specs.Prelude.{◌≡◌};
 ghost use Rattle.program.specs.Decoding.{register_of};

@@ -4,6 +4,6 @@ use Rattle.outcome.proofs.worker.work_out.Goals as goal
 
 pub returns : goal.returns
 returns c = record {
-  is = c.work-body.ensures;
-  outcome = λ kinds a few good is. c.work-body.ensures ∙ body_again c.args.values.now c.args.body.now kinds a few good is;
+  is = c.work_body.ensures;
+  outcome = λ kinds a few good is. c.work_body.ensures ∙ body_again c.args.values.now c.args.body.now kinds a few good is;
 }

@@ -6,8 +6,8 @@ use Rattle.outcome.proofs.writes.Kept.mask.Goals as goal
 pub loop-i-init : goal.loop-i-init
 loop-i-init c = let e = mask_none (meaning c.args.self.now) in search rules
 
-pub overflow-add-mask : goal.overflow-add-mask
-overflow-add-mask c =
+pub overflow_add-mask : goal.overflow_add-mask
+overflow_add-mask c =
     let b = bit_is c.loop-i.i c.loop-i-test.true in
     let f = mask_fits c.loop-i.i (meaning c.args.self.now) c.loop-i-test.true in search rules
 

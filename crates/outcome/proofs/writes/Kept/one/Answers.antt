@@ -1,4 +1,4 @@
-use Rattle.std.proofs.Common.{ℕ, cond, eqb, replicate, Some, None, Option, ap, ◌∙◌, arith}
+use Rattle.std.proofs.Common.{ℕ, cond, eqb, replicate, Some, None, Option, ap, ◌∙◌}
 use mathlib.Core.Path.{fun_ext}
 use Rattle.outcome.proofs.Arrays.{at_none, at_set}
 use Rattle.outcome.proofs.writes.Kept.one.Goals as goal
