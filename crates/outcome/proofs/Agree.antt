@@ -4,6 +4,7 @@ use borrow.Author.Tests.{eqb-false}
 use Rattle.program.specs.Tree.{Expr, Fetch, Constant, Variable, Operate, Choose, Guard, Let, Action, Assign, If, Parallel, Sequence, When, LetIn, Local}
 use Rattle.outcome.specs.Writes.{Writes, no_writes, one_write, over, shared}
 use Rattle.outcome.specs.Outcome.{Given, ready, not_ready, and_ready, where_true, operated, Bindings, value, joined, or_none, writes}
+use Rattle.outcome.specs.Laws.{RulesAgree}
 use Rattle.outcome.specs.Rules.{Gives, register_read, constant, variable, operator, operator_left_waits, operator_right_waits, choice_true, choice_false, choice_waits, guard_true, guard_false, guard_waits, let_bound, Does, register_update, update_waits, if_true, if_false, if_waits, when_true, when_false, when_waits, parallel, parallel_twice, parallel_left_waits, parallel_right_waits, sequence, sequence_first_waits, sequence_second_waits, let_action, local_ready, local_waits}
 use Rattle.outcome.proofs.Shared.{apart_below, written_twice, not_shared, is_shared}
 
@@ -155,3 +156,12 @@ module _ (store : List ℕ) where
   writes_only (let_action {so_far} k p d) = rw (sym (value_only store so_far p)) (writes_only d)
   writes_only (local_ready d) = rw (sym (writes_only d))
   writes_only (local_waits d) = rw (sym (writes_only d))
+
+-- The operational rules and the definition agree.
+pub rules_agree : RulesAgree
+rules_agree = record {
+  value_given = value_given;
+  value_only = λ store so_far bound e r d. value_only store so_far d;
+  writes_given = writes_given;
+  writes_only = λ store so_far bound a w d. writes_only store d;
+}

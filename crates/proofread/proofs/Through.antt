@@ -15,7 +15,7 @@ use Rattle.checker.specs.Accepted.{Bytes}
 use Rattle.checker.proofs.Decoded.{decoded}
 use Rattle.parts.proofs.Records.{register_again, body_again}
 use Rattle.outcome.specs.Outcome.{outcome}
-use Rattle.worker.proofs.Again as Again
+use Rattle.outcome.proofs.Again as Again
 use Rattle.proofread.specs.Proofreading.{found, values_fit, rule_at, of_rule, of_program, proofreading}
 use Rattle.proofread.specs.Steps.{fitting, body_at, read_rules, read_accepted, read_through}
 

@@ -11,7 +11,7 @@ use Rattle.program.specs.Verdict.{verdict}
 use Rattle.parts.specs.Parts.{body_of}
 use Rattle.outcome.specs.Writes.{Writes}
 use Rattle.outcome.specs.Outcome.{Given, not_ready}
-use Rattle.worker.specs.Working.{body_worked}
+use Rattle.outcome.specs.Working.{body_worked}
 use Rattle.proofread.specs.Proofreading.{Read, found}
 
 -- What is behind the registers, where no other register stands there.

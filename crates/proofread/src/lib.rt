@@ -1,7 +1,8 @@
 // Proofreading: what a single rule does on given values of the registers.
+#![tactic(auto)]
 
 ghost use Rattle.std.specs.Prelude.{◌≡◌};
-ghost use Rattle.outcome.specs.Held.{given_by};
+ghost use Rattle.outcome.specs.Workers.{given_by};
 ghost use Rattle.outcome.specs.Laws.{RulesAgree, WorkedCases, NoDoubleWrite, BranchesAlone, FailureKeepsNothing, BranchesExchange};
 ghost use Rattle.terms.specs.Answers.{stands_for};
 ghost use Rattle.proofread.specs.Proofreading.{finding, proofreading};
@@ -9,9 +10,9 @@ ghost use Rattle.proofread.specs.Steps.{fitting, body_at, worked_at, read_throug
 
 use checker::check;
 use outcome::done::Done;
+use outcome::worker::work_out;
 use parts::{take_register, take_rule};
 use terms::refusal::{Fault, Refused};
-use worker::body::work_out;
 
 /// What proofreading finds of a rule.
 #[derive(Clone, Copy, Debug, PartialEq, Eq)]

@@ -2,8 +2,8 @@ use Rattle.std.proofs.Common.{rules}
 use Rattle.proofread.proofs.Loops.{fitting_next, fitting_end}
 use Rattle.proofread.proofs.behind_registers.Goals as goal
 
-pub returns-in-err-register : goal.returns-in-err-register
-returns-in-err-register c =
+pub returns-in_err-register : goal.returns-in_err-register
+returns-in_err-register c =
     let e = fitting_next c.args.values.now c.loop-value.value-index c.loop-value.rest.now (search rules) in search rules
 
 pub returns-then-not-fits : goal.returns-then-not-fits

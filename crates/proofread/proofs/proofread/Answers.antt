@@ -7,7 +7,7 @@ use Rattle.proofread.proofs.proofread.Goals as goal
 
 pub returns : goal.returns
 returns c = record {
-  is = c.read.ensures ∙ through c.args.rule c.args.values.now c.args.program.now (each c.args.program.now c.type-inv.program);
+  is = c.read.ensures ∙ through c.args.rule c.args.values.now c.args.program.now (each c.args.program.now c.type_inv.program);
   agree = rules_agree;
   cases = worked_cases;
   no_double_write = no_double_write;
