@@ -1,12 +1,9 @@
 -- A text that a pattern has taken apart, as a list, and what the definitions make of it.
-use Rattle.std.proofs.Common.{◌≡◌, ℕ, suc, ◌+◌, ◌-◌, ◌*◌, ◌<◌, ◌≤◌, Bool, true, false, cond, List, [], ◌∷◌, ◌++◌, length, get_or, take, drop, Ok, Err, Decides, Result, sym, refl, ap, ◌∙◌, append_assoc, arith}
-use Rattle.std.specs.Cmp.Lexicographic.{Matches}
-use Rattle.std.specs.Str.{bytes_eq}
-use Rattle.std.proofs.lemmas.Slice.Eq.{slice_eq-Decides, bytes_eq-Decides}
+use Rattle.std.proofs.Common.{◌≡◌, ℕ, ◌+◌, ◌-◌, ◌*◌, ◌<◌, ◌≤◌, Bool, true, false, cond, List, [], ◌∷◌, ◌++◌, length, get_or, take, drop, Ok, Err, Result, refl, ap, append_assoc, arith}
 use Rattle.std.proofs.lemmas.List.{take_rest}
 use Rattle.command.specs.declared.mistake.Mistake.{Mistake}
 use Rattle.command.specs.declared.mistake.Mistake.TheVariants.{LoneDigit}
-use Rattle.command.specs.Words.{white, stripped, word, behind}
+use Rattle.command.specs.Words.{white, stripped}
 use Rattle.command.specs.Digits.{and_then, digit_of, second_of, pair_of, bytes_of}
 
 -- What a pattern `rest @ ..` behind one byte holds.

@@ -4,9 +4,7 @@ use Rattle.std.specs.Borrow.{Bor}
 use Rattle.command.specs.declared.mistake.Mistake.{Mistake}
 use Rattle.command.specs.declared.mistake.Mistake.TheVariants.{Unknown, Superfluous, NoFile}
 use Rattle.command.specs.declared.verb.Verb.{Verb}
-use Rattle.command.specs.declared.verb.Verb
 use Rattle.command.specs.declared.line.Command.{Command}
-use Rattle.command.specs.declared.line.Command
 use Rattle.command.specs.Words.{stripped, word, behind}
 use Rattle.command.specs.Verbs.{verb_of}
 

@@ -1,5 +1,5 @@
 -- The words of a line, which white space keeps apart.
-use Rattle.std.specs.Prelude.{ℕ, ◌+◌, Bool, true, false, cond, List, [], ◌∷◌, take, drop, ◌==◌}
+use Rattle.std.specs.Prelude.{ℕ, ◌+◌, Bool, true, cond, List, [], ◌∷◌, take, drop, ◌==◌}
 
 -- White space: a tab, a line feed, a carriage return or a space.
 abbrev pub white : ℕ → Bool

@@ -1,5 +1,7 @@
 // The reader's commands: what a line of text says.
 
+#![tactic(auto)]
+
 pub mod hex;
 pub mod line;
 pub mod mistake;

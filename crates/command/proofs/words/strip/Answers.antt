@@ -5,5 +5,5 @@ use Rattle.command.proofs.words.strip.Goals as goal
 pub loop-rest-preserved : goal.loop-rest-preserved
 loop-rest-preserved c = let e = stripped_as c.loop-rest.rest.now (search rules) in search rules
 
-pub returns-in-default : goal.returns-in-default
-returns-in-default c = let e = stripped_none c.loop-rest.rest.now (search rules) in search rules
+pub returns-in_default : goal.returns-in_default
+returns-in_default c = let e = stripped_none c.loop-rest.rest.now (search rules) in search rules

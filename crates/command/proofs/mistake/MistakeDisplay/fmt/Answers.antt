@@ -13,13 +13,13 @@ returns-in-NoFile-clause-writes g c = rw c.in-NoFile.is (search rules)
 
 pub returns-in-NoDigit-clause-writes : goal.returns-in-NoDigit-clause-writes
 returns-in-NoDigit-clause-writes g c =
-    let h : is_ascii_graphic c.in-NoDigit.byte ≡ true = sym c.if-is-ascii-graphic.ensures.value in
+    let h : is_ascii_graphic c.in-NoDigit.byte ≡ true = sym c.if-is_ascii_graphic.ensures.value in
     rw c.in-NoDigit.is (rw h (rw c.from-shown.ensures at c.write-in-NoDigit.ensures.writes))
 
 pub returns-in-NoDigit-2-clause-writes : goal.returns-in-NoDigit-2-clause-writes
 returns-in-NoDigit-2-clause-writes g c =
     let e : c.in-NoDigit.byte ≡ c.in-NoDigit-2.byte = cc in
-    let h : is_ascii_graphic c.in-NoDigit-2.byte ≡ false = rw e at (sym c.if-is-ascii-graphic.ensures.value) in
+    let h : is_ascii_graphic c.in-NoDigit-2.byte ≡ false = rw e at (sym c.if-is_ascii_graphic.ensures.value) in
     rw c.in-NoDigit-2.is (rw h c.write-in-NoDigit-2.ensures.writes)
 
 pub returns-in-LoneDigit-clause-writes : goal.returns-in-LoneDigit-clause-writes
