@@ -1,5 +1,7 @@
 // Reads commands from standard input, one on a line, and prints one line for each.
 
+#![tactic(auto)]
+
 mod answer;
 mod session;
 
