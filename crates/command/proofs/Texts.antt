@@ -60,3 +60,20 @@ pub pushed : (xs : List ℕ) (y : ℕ) (r : Result (List ℕ) Mistake) →
     and_then r (λ more. Ok ((xs ++ (y ∷ [])) ++ more)) ≡ and_then (and_then r (λ bytes. Ok (y ∷ bytes))) (λ more. Ok (xs ++ more))
 pushed xs y (Ok ys) = ap Ok (append_assoc xs (y ∷ []) ys)
 pushed xs y (Err e) = refl
+
+-- What is behind a pair is shorter than the text.
+second_rest : (w : Bool) (d : Result ℕ Mistake) (h : ℕ) (s : List ℕ) (p : ℕ × List ℕ) →
+    Ok p ≡ cond w (Err LoneDigit) (and_then d (λ l. Ok (h * 16 + l, s))) → p.1 ≡ s
+second_rest true d h s p e = cc
+second_rest false (Ok l) h s p e = cc
+second_rest false (Err x) h s p e = cc
+
+second_shorter : (d : Result ℕ Mistake) (s : List ℕ) (p : ℕ × List ℕ) →
+    Ok p ≡ and_then d (λ h. second_of h s) → length p.1 ≤ length s
+second_shorter (Err x) s p e = cc
+second_shorter (Ok h) [] p e = cc
+second_shorter (Ok h) (c ∷ s) p e = omega (arith, ap length (second_rest (white c) (digit_of c) h s p e))
+
+pub pair_shorter : (s : List ℕ) (p : ℕ × List ℕ) → Ok p ≡ pair_of s → length p.1 < length s
+pair_shorter [] p e = cc
+pair_shorter (a ∷ s) p e = omega (arith, second_shorter (digit_of a) s p e)

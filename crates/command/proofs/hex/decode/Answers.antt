@@ -1,6 +1,6 @@
 use Rattle.std.proofs.Common.{◌++◌, List, ℕ, Ok, sym, ap, ◌∙◌, rules}
 use Rattle.command.specs.Digits.{and_then, bytes_of}
-use Rattle.command.proofs.Texts.{bytes_white, bytes_pair, pushed, put}
+use Rattle.command.proofs.Texts.{bytes_white, bytes_pair, pushed, put, pair_shorter}
 use Rattle.command.proofs.hex.decode.Goals as goal
 
 pub loop-rest-preserved-then-is_white : goal.loop-rest-preserved-then-is_white
@@ -17,3 +17,7 @@ loop-rest-preserved c =
     ∙ ap (λ r. and_then r (λ more. Ok (c.loop-rest.bytes.items ++ more)))
     (sym (bytes_pair c.loop-rest.rest.now (search rules) (search rules)))
     ∙ c.loop-rest.invariant
+
+pub loop-rest-smaller : goal.loop-rest-smaller
+loop-rest-smaller c =
+    pair_shorter c.loop-rest.rest.now (c.in_ok-byte.byte, c.in_ok-byte.behind.now) c.in_ok-byte.ensures
