@@ -31,7 +31,7 @@ files() {
     if [ -e .git ]; then
         git ls-files -z
     else
-        find . \( -path ./target -o -path ./.git \) -prune -o -type f -print0
+        find . \( -path ./target -o -path ./.git -o -path './crates/*/out' \) -prune -o -type f -print0
     fi
 }
 
