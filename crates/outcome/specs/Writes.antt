@@ -53,6 +53,7 @@ unfoldable pub mask_below : ℕ → Writes → ℕ
 mask_below zero w = 0
 mask_below (suc n) w = cond (is_write (w n)) (mask_below n w + 2 ^ n) (mask_below n w)
 
+-- All the written registers, as a number of 64 bits.
 abbrev pub mask : Writes → ℕ
 mask w = mask_below 64 w
 
@@ -61,5 +62,6 @@ abbrev pub after_from : ℕ → Writes → List ℕ → List ℕ
 after_from r w [] = []
 after_from r w (v ∷ vs) = value_or (w r) v ∷ after_from (r + 1) w vs
 
+-- The values of all registers, when the writes have been made.
 abbrev pub after : Writes → List ℕ → List ℕ
 after w values = after_from 0 w values

@@ -20,11 +20,12 @@ body_of s =
 abbrev pub OfRule : List ℕ → Option (List ℕ × List ℕ) → Type 0
 OfRule bytes r = (a : Tree.Action) (s : List ℕ) → bytes ≡ rule_bytes a s → r ≡ Some (action_bytes a [], s)
 
--- What the code answers, in the words of the definitions.
+-- A register that the code answers, with the bytes behind it, in the words of the definitions.
 abbrev pub register_taken : Option (Register × Bor (List ℕ)) → Option (Tree.Register × List ℕ)
 register_taken (Some x) = Some (record { kind = x.0.kind; initial = x.0.initial }, x.1.now)
 register_taken None = None
 
+-- The same of a body.
 abbrev pub body_taken : Option (Bor (List ℕ) × Bor (List ℕ)) → Option (List ℕ × List ℕ)
 body_taken (Some x) = Some (x.0.now, x.1.now)
 body_taken None = None

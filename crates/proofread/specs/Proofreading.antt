@@ -54,5 +54,6 @@ of_program bytes rule values (Ok counts) =
     of_rule (kinds_of (program_of bytes).registers) values (rule_at (program_of bytes).rules rule)
 of_program bytes rule values (Err fault) = (refuses (number fault.refusal) (Some fault.place), values)
 
+-- The check is asked first, and its refusal is the call's, place and all.
 abbrev pub proofreading : List ℕ → ℕ → List ℕ → Read
 proofreading bytes rule values = of_program bytes rule values (verdict bytes)

@@ -33,19 +33,24 @@ body_at (suc n) s = and_some (body_of s) (λ b. body_at n b.1)
 abbrev pub worked_at : ℕ → List ℕ → List ℕ → Option (Given Writes)
 worked_at n values rules = and_some (body_at n rules) (λ b. body_worked values b)
 
+-- What is answered where a body gives this. An accepted program has a body wherever it has a rule, so the last line only makes
+-- the definition whole.
 abbrev pub found_at : List ℕ → Option (Given Writes) → Read
 found_at values (Some w) = found values w
 found_at values None = (answers not_ready, values)
 
+-- What is answered where the list fits and these are the bytes of the rules, and where it does not fit.
 abbrev pub read_rules : ℕ → List ℕ → Option (List ℕ) → Read
 read_rules rule values (Some rules) = found_at values (worked_at rule values rules)
 read_rules rule values None = (refuses 18 None, values)
 
+-- What is answered by the check's answer. The rule's number is asked for before the list.
 abbrev pub read_accepted : List ℕ → ℕ → List ℕ → Result Counts Fault → Read
 read_accepted bytes rule values (Ok counts) =
     cond (nat_lt rule counts.rules) (read_rules rule values (fitting values bytes)) (refuses 14 None, values)
 read_accepted bytes rule values (Err fault) = (refuses (number fault.refusal) (Some fault.place), values)
 
+-- What is answered on any bytes. For all of them this is `proofreading`, which speaks of the tree.
 abbrev pub read_through : List ℕ → ℕ → List ℕ → Read
 read_through bytes rule values = read_accepted bytes rule values (verdict bytes)
 
