@@ -3,6 +3,7 @@ use Rattle.std.specs.Prelude.{ℕ, ◌^◌, Bool, true, false, cond, Some, None,
 use Rattle.terms.specs.declared.kind.Kind.{Kind}
 use Rattle.terms.specs.declared.kind.Kind.TheVariants.{Truth, Word}
 use Rattle.terms.specs.declared.kind.Operator.{Operator}
+use Rattle.terms.specs.declared.kind.Operator.TheVariants.{Sum, Difference, And, Or, ExclusiveOr, Less, Equal, Both, Either}
 
 -- The byte that stands for a kind.
 abbrev pub kind_byte : Kind → ℕ
@@ -25,13 +26,34 @@ abbrev pub fits : Kind → ℕ → Bool
 fits Truth v = nat_lt v 2
 fits Word v = nat_lt v (2 ^ 32)
 
--- What an operator takes, twice, and what it gives.
+-- What an operator takes, twice, and what it gives, by its number.
 abbrev pub takes : ℕ → Kind
 takes o = cond (nat_lt o 7) Word Truth
 
 abbrev pub gives : ℕ → Kind
 gives o = cond (nat_lt o 5) Word Truth
 
--- There are nine operators: 0 sum, 1 difference, 2 and, 3 or and 4 exclusive or of bits, 5 less, 6 equal, 7 both, 8 either.
+-- There are nine operators, whose numbers count from 0: sum, difference, and, or and exclusive or of bits, less, equal, both, either.
 abbrev pub operator_of : ℕ → Option Operator
-operator_of o = cond (nat_lt o 9) (Some (record { takes = takes o; gives = gives o })) None
+operator_of o =
+    cond (o == 0) (Some Sum) (cond (o == 1) (Some Difference) (cond (o == 2) (Some And)
+    (cond (o == 3) (Some Or) (cond (o == 4) (Some ExclusiveOr) (cond (o == 5) (Some Less)
+    (cond (o == 6) (Some Equal) (cond (o == 7) (Some Both) (cond (o == 8) (Some Either) None))))))))
+
+abbrev pub operator_number : Operator → ℕ
+operator_number Sum = 0
+operator_number Difference = 1
+operator_number And = 2
+operator_number Or = 3
+operator_number ExclusiveOr = 4
+operator_number Less = 5
+operator_number Equal = 6
+operator_number Both = 7
+operator_number Either = 8
+
+-- What an operator takes and gives.
+abbrev pub taken : Operator → Kind
+taken o = takes (operator_number o)
+
+abbrev pub given : Operator → Kind
+given o = gives (operator_number o)

@@ -1,27 +1,39 @@
 // The two types of value, and the operators on them.
 
 ghost use Rattle.std.specs.Prelude.{◌≡◌};
-ghost use Rattle.terms.specs.Kinds.{kind_of, fits, takes, gives, operator_of};
+ghost use Rattle.terms.specs.Codes.{known};
+ghost use Rattle.terms.specs.Kinds.{kind_of, fits, taken, given, operator_of};
+
+use crate::code::{Code, Unknown};
 
 /// The type of a register, of what a let binds, and of what an expression gives.
-#[derive(Clone, Copy, PartialEq, Eq)]
+#[derive(Clone, Copy, Debug, PartialEq, Eq)]
 pub enum Kind {
     Truth,
     Word,
 }
 
-impl Kind {
-    /// The kind that a type byte stands for.
-    pub fn from_byte(byte: u8) -> Option<Kind>
-        ensures { result ≡ kind_of byte }
-    {
+impl TryFrom<u8> for Kind {
+    type Error = Unknown;
+
+    ghost try_from_gives = { λ b r. r ≡ known (kind_of b) };
+
+    fn try_from(byte: u8) -> Result<Kind, Unknown> {
         match byte {
-            0 => Some(Kind::Truth),
-            1 => Some(Kind::Word),
-            _ => None,
+            0 => Ok(Kind::Truth),
+            1 => Ok(Kind::Word),
+            _ => Err(Unknown),
         }
     }
+}
 
+impl Code for Kind {
+    ghost meaning = { kind_of };
+
+    ghost converts = { λ _ _ h. h };
+}
+
+impl Kind {
     /// Whether a register of this kind can hold the value.
     pub fn fits(self, value: u32) -> bool
         ensures { result ≡ fits self value }
@@ -33,32 +45,75 @@ impl Kind {
     }
 }
 
-/// What an operator takes, twice, and what it gives.
-#[derive(Clone, Copy)]
-pub struct Operator {
-    pub takes: Kind,
-    pub gives: Kind,
+/// An operator, which takes two values of one kind.
+#[derive(Clone, Copy, Debug, PartialEq, Eq)]
+pub enum Operator {
+    Sum,
+    Difference,
+    And,
+    Or,
+    ExclusiveOr,
+    Less,
+    Equal,
+    Both,
+    Either,
+}
+
+impl TryFrom<u8> for Operator {
+    type Error = Unknown;
+
+    ghost try_from_gives = { λ b r. r ≡ known (operator_of b) };
+
+    fn try_from(byte: u8) -> Result<Operator, Unknown> {
+        match byte {
+            0 => Ok(Operator::Sum),
+            1 => Ok(Operator::Difference),
+            2 => Ok(Operator::And),
+            3 => Ok(Operator::Or),
+            4 => Ok(Operator::ExclusiveOr),
+            5 => Ok(Operator::Less),
+            6 => Ok(Operator::Equal),
+            7 => Ok(Operator::Both),
+            8 => Ok(Operator::Either),
+            _ => Err(Unknown),
+        }
+    }
+}
+
+impl Code for Operator {
+    ghost meaning = { operator_of };
+
+    ghost converts = { λ _ _ h. h };
 }
 
 impl Operator {
-    /// The operator that a byte stands for.
-    pub fn from_byte(byte: u8) -> Option<Operator>
-        ensures { result ≡ operator_of byte }
+    /// The kind of both operands.
+    pub fn takes(self) -> Kind
+        ensures { result ≡ taken self }
     {
-        match byte {
-            0..=4 => Some(Operator {
-                takes: Kind::Word,
-                gives: Kind::Word,
-            }),
-            5..=6 => Some(Operator {
-                takes: Kind::Word,
-                gives: Kind::Truth,
-            }),
-            7..=8 => Some(Operator {
-                takes: Kind::Truth,
-                gives: Kind::Truth,
-            }),
-            _ => None,
+        match self {
+            Operator::Sum
+            | Operator::Difference
+            | Operator::And
+            | Operator::Or
+            | Operator::ExclusiveOr
+            | Operator::Less
+            | Operator::Equal => Kind::Word,
+            Operator::Both | Operator::Either => Kind::Truth,
+        }
+    }
+
+    /// The kind of the value.
+    pub fn gives(self) -> Kind
+        ensures { result ≡ given self }
+    {
+        match self {
+            Operator::Sum
+            | Operator::Difference
+            | Operator::And
+            | Operator::Or
+            | Operator::ExclusiveOr => Kind::Word,
+            Operator::Less | Operator::Equal | Operator::Both | Operator::Either => Kind::Truth,
         }
     }
 }

@@ -1,10 +1,13 @@
 // The nodes of a rule's tree, each opened by one byte.
 
 ghost use Rattle.std.specs.Prelude.{◌≡◌};
+ghost use Rattle.terms.specs.Codes.{known};
 ghost use Rattle.terms.specs.Nodes.{value_node, action_node};
 
+use crate::code::{Code, Unknown};
+
 /// A node that gives a value.
-#[derive(Clone, Copy)]
+#[derive(Clone, Copy, Debug, PartialEq, Eq)]
 pub enum ValueNode {
     Register,
     Word,
@@ -17,7 +20,7 @@ pub enum ValueNode {
 }
 
 /// A node that gives writes.
-#[derive(Clone, Copy)]
+#[derive(Clone, Copy, Debug, PartialEq, Eq)]
 pub enum ActionNode {
     Assign,
     If,
@@ -28,37 +31,53 @@ pub enum ActionNode {
     Local,
 }
 
-impl ValueNode {
-    pub fn from_byte(byte: u8) -> Option<ValueNode>
-        ensures { result ≡ value_node byte }
-    {
+impl TryFrom<u8> for ValueNode {
+    type Error = Unknown;
+
+    ghost try_from_gives = { λ b r. r ≡ known (value_node b) };
+
+    fn try_from(byte: u8) -> Result<ValueNode, Unknown> {
         match byte {
-            0x01 => Some(ValueNode::Register),
-            0x02 => Some(ValueNode::Word),
-            0x03 => Some(ValueNode::Truth),
-            0x04 => Some(ValueNode::Variable),
-            0x05 => Some(ValueNode::Operator),
-            0x06 => Some(ValueNode::Choice),
-            0x07 => Some(ValueNode::Guard),
-            0x08 => Some(ValueNode::Let),
-            _ => None,
+            0x01 => Ok(ValueNode::Register),
+            0x02 => Ok(ValueNode::Word),
+            0x03 => Ok(ValueNode::Truth),
+            0x04 => Ok(ValueNode::Variable),
+            0x05 => Ok(ValueNode::Operator),
+            0x06 => Ok(ValueNode::Choice),
+            0x07 => Ok(ValueNode::Guard),
+            0x08 => Ok(ValueNode::Let),
+            _ => Err(Unknown),
         }
     }
 }
 
-impl ActionNode {
-    pub fn from_byte(byte: u8) -> Option<ActionNode>
-        ensures { result ≡ action_node byte }
-    {
+impl Code for ValueNode {
+    ghost meaning = { value_node };
+
+    ghost converts = { λ _ _ h. h };
+}
+
+impl TryFrom<u8> for ActionNode {
+    type Error = Unknown;
+
+    ghost try_from_gives = { λ b r. r ≡ known (action_node b) };
+
+    fn try_from(byte: u8) -> Result<ActionNode, Unknown> {
         match byte {
-            0x11 => Some(ActionNode::Assign),
-            0x12 => Some(ActionNode::If),
-            0x13 => Some(ActionNode::Parallel),
-            0x14 => Some(ActionNode::Sequence),
-            0x15 => Some(ActionNode::When),
-            0x16 => Some(ActionNode::Let),
-            0x17 => Some(ActionNode::Local),
-            _ => None,
+            0x11 => Ok(ActionNode::Assign),
+            0x12 => Ok(ActionNode::If),
+            0x13 => Ok(ActionNode::Parallel),
+            0x14 => Ok(ActionNode::Sequence),
+            0x15 => Ok(ActionNode::When),
+            0x16 => Ok(ActionNode::Let),
+            0x17 => Ok(ActionNode::Local),
+            _ => Err(Unknown),
         }
     }
+}
+
+impl Code for ActionNode {
+    ghost meaning = { action_node };
+
+    ghost converts = { λ _ _ h. h };
 }

@@ -8,21 +8,21 @@ ghost use Rattle.terms.specs.Refusals.{fault, number, refused_number};
 #[derive(Clone, Copy, Debug, PartialEq, Eq)]
 pub enum Refusal {
     /// The program has more bytes than any program may have.
-    Length,
+    Length = 1,
     /// The program ends inside a mark or a record, or before its first entry.
-    Missing,
+    Missing = 2,
     /// A mark that may not stand where it does.
-    Order,
+    Order = 3,
     /// A register, rule or entry more than a program may have.
-    Count,
+    Count = 4,
     /// A type, truth, operator, node or initial value of another sort than is wanted there.
-    Sort,
+    Sort = 5,
     /// A number or mask that names what is not there, or what has another type.
-    Name,
+    Name = 6,
     /// A node beyond the nesting limits.
-    Nesting,
+    Nesting = 7,
     /// A tree that ends before its body does, or goes on after it.
-    Fill,
+    Fill = 8,
 }
 
 /// The first byte at fault in a program, and the question that it fails.
@@ -42,21 +42,14 @@ impl Refusal {
             place,
         }
     }
+}
 
-    /// The number of the question, as it is shown to people.
-    pub fn number(self) -> u8
-        ensures { result ≡ number self }
-    {
-        match self {
-            Refusal::Length => 1,
-            Refusal::Missing => 2,
-            Refusal::Order => 3,
-            Refusal::Count => 4,
-            Refusal::Sort => 5,
-            Refusal::Name => 6,
-            Refusal::Nesting => 7,
-            Refusal::Fill => 8,
-        }
+/// The number of the question, as it is shown to people.
+impl From<Refusal> for u8 {
+    ghost from_gives = { λ q n. n ≡ number q };
+
+    fn from(refusal: Refusal) -> u8 {
+        refusal as u8
     }
 }
 
@@ -71,13 +64,13 @@ pub enum Refused {
     Values,
 }
 
-impl Refused {
-    /// The number of the question, as it is shown to people.
-    pub fn number(self) -> u8
-        ensures { result ≡ refused_number self }
-    {
-        match self {
-            Refused::Program(fault) => fault.refusal.number(),
+/// The number of the question, as it is shown to people.
+impl From<Refused> for u8 {
+    ghost from_gives = { λ q n. n ≡ refused_number q };
+
+    fn from(refused: Refused) -> u8 {
+        match refused {
+            Refused::Program(fault) => u8::from(fault.refusal),
             Refused::Rule => 14,
             Refused::Values => 18,
         }
