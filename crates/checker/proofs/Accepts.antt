@@ -1,12 +1,14 @@
 -- What is the encoding of a well-formed program is accepted.
-use Rattle.std.proofs.Common.{◌≡◌, ℕ, zero, suc, ◌+◌, ◌-◌, ◌*◌, ◌/◌, ◌%◌, ◌^◌, ◌≤◌, true, List, [], ◌∷◌, ◌++◌, length, get_or, Some, Ok, sym, refl, ap, ◌∙◌, append_assoc, append-nil, add-zero, zero-add, arith, length-append, le-ltb, lt-ltb, ne_eqb, le-leb}
+use Rattle.std.proofs.Common.{◌≡◌, ℕ, zero, suc, ◌+◌, ◌-◌, ◌*◌, ◌/◌, ◌%◌, ◌^◌, ◌<◌, ◌≤◌, true, List, [], ◌∷◌, ◌++◌, length, get_or, Some, Ok, sym, refl, ap, ◌∙◌, append_assoc, append-nil, add-zero, zero-add, arith, length-append, le-ltb, lt-ltb, ne_eqb, le-leb}
 use lib.Dec.{eqb-suc-zero}
 use lib.ListN.{length-map}
 use Rattle.std.proofs.lemmas.List.{take_at, drop_at}
 use Rattle.terms.specs.declared.refusal.Refusal.TheVariants.{Fill}
 use Rattle.terms.specs.declared.kind.Kind.{Kind}
 use Rattle.terms.specs.declared.kind.Kind.TheVariants.{Truth, Word}
-use Rattle.terms.specs.Kinds.{kind_of, kind_byte, same, fits, takes}
+use Rattle.terms.specs.declared.kind.Operator.{Operator}
+use Rattle.terms.specs.declared.kind.Operator.TheVariants.{Sum, Difference, And, Or, ExclusiveOr, Less, Equal, Both, Either}
+use Rattle.terms.specs.Kinds.{kind_of, kind_byte, same, fits, takes, gives, taken, given, operator_of}
 use Rattle.tree.specs.Reading.{Body, Read, place, expression, action}
 use Rattle.program.specs.Tree.{Expr, Fetch, Constant, Variable, Operate, Choose, Guard, Let, Action, Assign, If, Parallel, Sequence, When, LetIn, Local, Register, Entry, Program}
 use Rattle.program.specs.Encoding.{two_bytes, four_bytes, expr_bytes, action_bytes, register_bytes, rule_bytes, entry_bytes, all_bytes, encode}
@@ -17,6 +19,25 @@ use Rattle.program.specs.Verdict.{opening_of, on_register, on_rule, on_entry, re
 same_kind : (k : Kind) → same k k ≡ true
 same_kind Truth = refl
 same_kind Word = refl
+
+-- A number below 9 is that of an operator, which takes and gives what the number says.
+record Known (o : ℕ) : Type 0 where
+  operator : Operator
+  found : operator_of o ≡ Some operator
+  takes_it : taken operator ≡ takes o
+  gives_it : given operator ≡ gives o
+
+known : (o : ℕ) → o < 9 → Known o
+known zero h = record { operator = Sum; found = refl; takes_it = refl; gives_it = refl }
+known (suc zero) h = record { operator = Difference; found = refl; takes_it = refl; gives_it = refl }
+known (suc (suc zero)) h = record { operator = And; found = refl; takes_it = refl; gives_it = refl }
+known (suc (suc (suc zero))) h = record { operator = Or; found = refl; takes_it = refl; gives_it = refl }
+known (suc (suc (suc (suc zero)))) h = record { operator = ExclusiveOr; found = refl; takes_it = refl; gives_it = refl }
+known (suc (suc (suc (suc (suc zero))))) h = record { operator = Less; found = refl; takes_it = refl; gives_it = refl }
+known (suc (suc (suc (suc (suc (suc zero)))))) h = record { operator = Equal; found = refl; takes_it = refl; gives_it = refl }
+known (suc (suc (suc (suc (suc (suc (suc zero))))))) h = record { operator = Both; found = refl; takes_it = refl; gives_it = refl }
+known (suc (suc (suc (suc (suc (suc (suc (suc zero)))))))) h = record { operator = Either; found = refl; takes_it = refl; gives_it = refl }
+known (suc (suc (suc (suc (suc (suc (suc (suc (suc o))))))))) h = absurd (omega arith)
 
 pub kind_again : (k : Kind) → kind_of (kind_byte k) ≡ Some k
 kind_again Truth = refl
@@ -44,7 +65,8 @@ module _ (t : Body) where
   expression_reads (Operate o a b) (suc d) l scope want s ty p q =
       let x = expression_reads a d l scope (takes o) (expr_bytes b s) ty.2 (omega arith) (omega arith) in
       let y = expression_reads b d l scope (takes o) s ty.3 (omega arith) (omega arith) in
-      rw (lt-ltb o 9 ty.0, ty.1, same_kind want, x, y)
+      let n = known o ty.0 in
+      rw (n.found, n.gives_it, ty.1, same_kind want, n.takes_it, x, y)
   expression_reads (Choose c a b) zero l scope want s ty p q = absurd (omega arith)
   expression_reads (Choose c a b) (suc d) l scope want s ty p q =
       let z = expression_reads c d l scope Truth (expr_bytes a (expr_bytes b s)) ty.0 (omega arith) (omega arith) in

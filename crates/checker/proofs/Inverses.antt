@@ -4,9 +4,10 @@ use Rattle.terms.specs.declared.refusal.Fault.{Fault}
 use Rattle.terms.specs.declared.kind.Kind.{Kind}
 use Rattle.terms.specs.declared.kind.Kind.TheVariants.{Truth, Word}
 use Rattle.terms.specs.declared.kind.Operator.{Operator}
+use Rattle.terms.specs.declared.kind.Operator.TheVariants.{Sum, Difference, And, Or, ExclusiveOr, Less, Equal, Both, Either}
 use Rattle.terms.specs.declared.node.ValueNode.{ValueNode}
 use Rattle.terms.specs.declared.node.ActionNode.{ActionNode}
-use Rattle.terms.specs.Kinds.{kind_of, kind_byte, same, fits, takes, gives, operator_of}
+use Rattle.terms.specs.Kinds.{kind_of, kind_byte, same, fits, takes, gives, operator_of, operator_number, taken, given}
 use Rattle.terms.specs.Nodes.{value_node, action_node}
 use Rattle.tree.specs.Reading.{Body, fault, and_then, or_fault, byte_of, word_of, truth_of, kind_at, operator_at, named_of, wanted_of, suits, value_at, action_at}
 use Rattle.program.specs.Encoding.{four_bytes}
@@ -103,17 +104,34 @@ action_byte b n h =
     pick b 22 ActionNode.Let _ n h (λ e q. e ∙ ap action_code q) (λ h.
     pick b 23 ActionNode.Local _ n h (λ e q. e ∙ ap action_code q) (λ h. absurd (none_some n h))))))))
 
-pub operator_low : (b : ℕ) (o : Operator) → operator_of b ≡ Some o → (b < 9) × (o.takes ≡ takes b) × (o.gives ≡ gives b)
-operator_low b o h = go (ltb b 9) refl h
-  where
-    known : Operator
-    known = record { takes = takes b; gives = gives b }
+pub operator_only : (b : ℕ) (o : Operator) → operator_of b ≡ Some o → b ≡ operator_number o
+operator_only b o h =
+    pick b 0 Sum _ o h (λ e q. e ∙ ap operator_number q) (λ h.
+    pick b 1 Difference _ o h (λ e q. e ∙ ap operator_number q) (λ h.
+    pick b 2 And _ o h (λ e q. e ∙ ap operator_number q) (λ h.
+    pick b 3 Or _ o h (λ e q. e ∙ ap operator_number q) (λ h.
+    pick b 4 ExclusiveOr _ o h (λ e q. e ∙ ap operator_number q) (λ h.
+    pick b 5 Less _ o h (λ e q. e ∙ ap operator_number q) (λ h.
+    pick b 6 Equal _ o h (λ e q. e ∙ ap operator_number q) (λ h.
+    pick b 7 Both _ o h (λ e q. e ∙ ap operator_number q) (λ h.
+    pick b 8 Either _ o h (λ e q. e ∙ ap operator_number q) (λ h. absurd (none_some o h))))))))))
 
-    go : (t : Bool) → ltb b 9 ≡ t → cond t (Some known) None ≡ Some o → (b < 9) × (o.takes ≡ takes b) × (o.gives ≡ gives b)
-    go true e h =
-        let is : o ≡ known = sym (some_some known o h) in
-        (ltb-true b 9 e, ap (λ (x : Operator). x.takes) is, ap (λ (x : Operator). x.gives) is)
-    go false e h = absurd (none_some o h)
+operator_below : (o : Operator) → operator_number o < 9
+operator_below Sum = omega arith
+operator_below Difference = omega arith
+operator_below And = omega arith
+operator_below Or = omega arith
+operator_below ExclusiveOr = omega arith
+operator_below Less = omega arith
+operator_below Equal = omega arith
+operator_below Both = omega arith
+operator_below Either = omega arith
+
+pub operator_low : (b : ℕ) (o : Operator) → operator_of b ≡ Some o → (b < 9) × (taken o ≡ takes b) × (given o ≡ gives b)
+operator_low b o h =
+    let is : b ≡ operator_number o = operator_only b o h in
+    let low = operator_below o in
+    (omega arith, ap takes (sym is), ap gives (sym is))
 
 -- The four bytes of the number that four bytes make.
 pub four_bytes_of : (a b c d : ℕ) (s : List ℕ) → a < 256 → b < 256 → c < 256 → d < 256 →
@@ -199,18 +217,18 @@ module _ (t : Body) where
       (g.0, cc, (g.2.0, g.2.1 ∙ kind), subst Bytes end g.3)
 
   pub operator_got : (want : Kind) (s : List ℕ) (x : Operator × List ℕ) → Bytes s → operator_at t want s ≡ Ok x →
-      (o : ℕ) × (s ≡ o ∷ x.1) × (o < 9) × (gives o ≡ want) × (x.0.takes ≡ takes o) × Bytes x.1
+      (o : ℕ) × (s ≡ o ∷ x.1) × (o < 9) × (gives o ≡ want) × (taken x.0 ≡ takes o) × Bytes x.1
   operator_got want s x all h =
       let r = then_ok (byte_of t s) _ x h in
       let g = byte_got s r.0 all r.1 in
       let o = then_ok (or_fault _ (operator_of r.0.0)) _ x r.2 in
       let known = or_ok _ (operator_of r.0.0) o.0 o.1 in
-      let k = cond_ok (same o.0.gives want) (Ok (o.0, r.0.1)) _ x o.2 in
+      let k = cond_ok (same (given o.0) want) (Ok (o.0, r.0.1)) _ x o.2 in
       let end : ◌≡◌ {A = Operator × List ℕ} (o.0, r.0.1) x = ok_ok (o.0, r.0.1) x k.1 in
       let low = operator_low r.0.0 o.0 known in
       let P : Operator × List ℕ → Type 0 =
-      λ y. (n : ℕ) × (s ≡ n ∷ y.1) × (n < 9) × (gives n ≡ want) × (y.0.takes ≡ takes n) × Bytes y.1 in
-      subst P end (r.0.0, g.is, low.0, sym low.2 ∙ same_true o.0.gives want k.0, low.1, g.rest)
+      λ y. (n : ℕ) × (s ≡ n ∷ y.1) × (n < 9) × (gives n ≡ want) × (taken y.0 ≡ takes n) × Bytes y.1 in
+      subst P end (r.0.0, g.is, low.0, sym low.2 ∙ same_true (given o.0) want k.0, low.1, g.rest)
 
   pub value_got : (want : Kind) (s : List ℕ) (x : ValueNode × List ℕ) → Bytes s → value_at t want s ≡ Ok x →
       (s ≡ value_code x.0 ∷ x.1) × (suits want x.0 ≡ true) × Bytes x.1

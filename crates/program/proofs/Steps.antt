@@ -1,9 +1,8 @@
 -- The definitions of the rows of records, unfolded once.
-use Rattle.std.proofs.Common.{◌≡◌, ℕ, zero, suc, ◌+◌, ◌-◌, cond, eqb, List, [], ◌∷◌, ◌++◌, length, take, Ok, Err, refl, arith}
+use Rattle.std.proofs.Common.{◌≡◌, ℕ, zero, suc, ◌+◌, ◌-◌, cond, eqb, List, [], ◌∷◌, ◌++◌, length, Ok, Err, refl, arith}
 use lib.Dec.{eqb-suc-zero}
 use Rattle.terms.specs.declared.refusal.Refusal.TheVariants.{Order, Count}
 use Rattle.terms.specs.declared.kind.Kind.{Kind}
-use Rattle.program.specs.declared.examine.Records.{Records}
 use Rattle.tree.specs.Reading.{fault, and_then, place}
 use Rattle.program.specs.Verdict.{opening_of, on_register, on_rule, on_entry, register_of, rule_of, entry_of, registers, rules, entries}
 
@@ -41,34 +40,31 @@ entries_is zero end rules count s = refl
 entries_is (suc n) end rules count s = let e : suc n - 1 ≡ n = omega arith in simp (e, eqb-suc-zero)
 
 -- The same as a loop meets them, behind the records that it has counted.
-pub registers_left : (r : Records) (kinds : List Kind) (count : ℕ) →
-    registers (length kinds - count) r.end (take count kinds) r.rest.now
-    ≡ on_register (opening_of r.rest.now)
-    (λ f. cond (eqb (length kinds - count) 0) (Err (fault Count (place r.end r.rest.now)))
-    (and_then (register_of r.end f) (λ k. registers (length kinds - (count + 1)) r.end (take count kinds ++ (k.0 ∷ [])) k.1)))
-    (Ok (take count kinds, r.rest.now))
-registers_left r kinds count =
-    let e : length kinds - (count + 1) ≡ length kinds - count - 1 = omega arith in
-    rw e (registers_is (length kinds - count) r.end (take count kinds) r.rest.now)
+pub registers_left : (most end count : ℕ) (kinds : List Kind) (s : List ℕ) →
+    registers (most - count) end kinds s
+    ≡ on_register (opening_of s)
+    (λ f. cond (eqb (most - count) 0) (Err (fault Count (place end s)))
+    (and_then (register_of end f) (λ k. registers (most - (count + 1)) end (kinds ++ (k.0 ∷ [])) k.1)))
+    (Ok (kinds, s))
+registers_left most end count kinds s =
+    let e : most - (count + 1) ≡ most - count - 1 = omega arith in rw e (registers_is (most - count) end kinds s)
 
-pub rules_left : (r : Records) (kinds : List Kind) (count : ℕ) →
-    rules (32 - count) r.end kinds count r.rest.now
-    ≡ on_rule (opening_of r.rest.now)
-    (λ f. cond (eqb (length kinds) 0) (Err (fault Order (place r.end r.rest.now)))
-    (cond (eqb (32 - count) 0) (Err (fault Count (place r.end r.rest.now)))
-    (and_then (rule_of r.end kinds f) (λ l. rules (32 - (count + 1)) r.end kinds (count + 1) l))))
-    (Ok (count, r.rest.now))
-rules_left r kinds count =
-    let e : 32 - (count + 1) ≡ 32 - count - 1 = omega arith in
-    rw e (rules_is (32 - count) r.end kinds count r.rest.now)
+pub rules_left : (end : ℕ) (kinds : List Kind) (count : ℕ) (s : List ℕ) →
+    rules (32 - count) end kinds count s
+    ≡ on_rule (opening_of s)
+    (λ f. cond (eqb (length kinds) 0) (Err (fault Order (place end s)))
+    (cond (eqb (32 - count) 0) (Err (fault Count (place end s)))
+    (and_then (rule_of end kinds f) (λ l. rules (32 - (count + 1)) end kinds (count + 1) l))))
+    (Ok (count, s))
+rules_left end kinds count s =
+    let e : 32 - (count + 1) ≡ 32 - count - 1 = omega arith in rw e (rules_is (32 - count) end kinds count s)
 
-pub entries_left : (r : Records) (rules count : ℕ) →
-    entries (64 - count) r.end rules count r.rest.now
-    ≡ on_entry (opening_of r.rest.now)
-    (λ f. cond (eqb rules 0) (Err (fault Order (place r.end r.rest.now)))
-    (cond (eqb (64 - count) 0) (Err (fault Count (place r.end r.rest.now)))
-    (and_then (entry_of r.end rules f) (λ l. entries (64 - (count + 1)) r.end rules (count + 1) l))))
-    (Ok (count, r.rest.now))
-entries_left r rules count =
-    let e : 64 - (count + 1) ≡ 64 - count - 1 = omega arith in
-    rw e (entries_is (64 - count) r.end rules count r.rest.now)
+pub entries_left : (end rules count : ℕ) (s : List ℕ) →
+    entries (64 - count) end rules count s
+    ≡ on_entry (opening_of s)
+    (λ f. cond (eqb rules 0) (Err (fault Order (place end s)))
+    (cond (eqb (64 - count) 0) (Err (fault Count (place end s)))
+    (and_then (entry_of end rules f) (λ l. entries (64 - (count + 1)) end rules (count + 1) l))))
+    (Ok (count, s))
+entries_left end rules count s =
+    let e : 64 - (count + 1) ≡ 64 - count - 1 = omega arith in rw e (entries_is (64 - count) end rules count s)

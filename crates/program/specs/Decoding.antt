@@ -3,6 +3,7 @@ use Rattle.std.specs.Prelude.{ℕ, zero, suc, List, [], ◌∷◌, Some, None, O
 use Rattle.terms.specs.declared.kind.Kind.TheVariants.{Truth, Word}
 use Rattle.terms.specs.declared.node.ValueNode.{ValueNode}
 use Rattle.terms.specs.declared.node.ActionNode.{ActionNode}
+pub use Rattle.terms.specs.Inputs.{Decoder, one}
 use Rattle.terms.specs.Kinds.{kind_of}
 use Rattle.terms.specs.Nodes.{value_node, action_node}
 use Rattle.program.specs.Tree.{Expr, Fetch, Constant, Variable, Operate, Choose, Guard, Let, Action, Assign, If, Parallel, Sequence, When, LetIn, Local, Register, Entry, Program}
@@ -12,15 +13,6 @@ use Rattle.program.specs.Verdict.{opening_of, on_register, on_rule, on_entry, fo
 abbrev pub and_some : {A B : Type 0} → Option A → (A → Option B) → Option B
 and_some (Some x) f = f x
 and_some None f = None
-
--- What a decoder finds at the beginning of the bytes, and what is behind it.
-abbrev pub Decoder : Type 0 → Type 0
-Decoder A = List ℕ → Option (A × List ℕ)
-
--- One byte.
-abbrev pub one : Decoder ℕ
-one [] = None
-one (b ∷ s) = Some (b, s)
 
 -- What is behind a node's byte, where `part` decodes its parts.
 abbrev pub value_of : Decoder Expr → ValueNode → Decoder Expr

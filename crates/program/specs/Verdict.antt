@@ -1,11 +1,12 @@
 -- What the check answers for every string of bytes: how many registers, rules and entries it has, or its first fault.
 -- A program is a row of records, each opened by a mark of two bytes: registers, then rules, then entries.
-use Rattle.std.specs.Prelude.{ℕ, zero, suc, ◌+◌, ◌*◌, ◌^◌, cond, List, [], ◌∷◌, ◌++◌, length, take, drop, Some, None, Ok, Err, Option, Result, ◌==◌, nat_le, nat_lt}
+use Rattle.std.specs.Prelude.{ℕ, zero, suc, ◌+◌, ◌*◌, ◌^◌, cond, List, [], ◌∷◌, ◌++◌, length, take, drop, Ok, Err, Result, ◌==◌, nat_le, nat_lt}
 use Rattle.terms.specs.declared.refusal.Refusal.TheVariants.{Length, Missing, Order, Count, Sort, Name, Fill}
 use Rattle.terms.specs.declared.refusal.Fault.{Fault}
 use Rattle.terms.specs.declared.kind.Kind.{Kind}
 use Rattle.program.specs.declared.examine.Counts.{Counts}
 use Rattle.terms.specs.Kinds.{kind_of, fits}
+pub use Rattle.terms.specs.Inputs.{four_of}
 use Rattle.tree.specs.Reading.{fault, and_then, or_fault, Read, Passed, place, tree}
 
 -- What stands where a record may begin: one of the three marks with what is behind it, two other bytes, or less than two.
@@ -49,14 +50,6 @@ on_entry (rule s) f other = other
 on_entry (entry s) f other = f s
 on_entry unknown f other = other
 on_entry cut f other = other
-
--- A number of four bytes, the highest first, where all of them are there.
-abbrev pub four_of : List ℕ → Option (ℕ × List ℕ)
-four_of [] = None
-four_of (a ∷ []) = None
-four_of (a ∷ (b ∷ [])) = None
-four_of (a ∷ (b ∷ (c ∷ []))) = None
-four_of (a ∷ (b ∷ (c ∷ (d ∷ s)))) = Some (a * 16777216 + b * 65536 + c * 256 + d, s)
 
 -- Behind a register's mark: a type, and an initial value of that type, judged only where all of it is there.
 abbrev pub register_of : ℕ → List ℕ → Read Kind

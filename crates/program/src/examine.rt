@@ -1,11 +1,11 @@
 // The whole program: its records in order.
 
 ghost use Rattle.std.specs.Prelude.{◌≡◌, ◌≤◌, [], length, IfOk};
-ghost use Rattle.tree.specs.Reading.{place};
+ghost use Rattle.tree.specs.Readers.{after};
 ghost use Rattle.program.specs.Verdict.{registers, rules, entries, ended, verdict};
-ghost use Rattle.program.specs.Records.{listed, counted};
+ghost use Rattle.program.specs.Records.{listed, allowed};
 
-use crate::record::{Opening, entry, opens, register, rule};
+use crate::record::{Opening, Records};
 use terms::kind::Kind;
 use terms::refusal::{Fault, Refusal};
 
@@ -25,89 +25,76 @@ pub struct Counts {
     pub entries: usize,
 }
 
-/// A program whose records are being read.
-#[derive(Drop)]
-struct Records<'a> {
-    /// The bytes that are left.
-    rest: &'a [u8],
-    /// The place behind the last of them.
-    end: usize,
-}
-
-impl Records<'_> {
-    /// The place of the next byte.
-    fn place(&self) -> usize
-        ensures { result ≡ place self.now.end self.now.rest.now }
-    {
-        self.end.saturating_sub(self.rest.len())
-    }
-
+impl Records {
     /// Reads the registers, and notes the kind of each.
-    fn registers(&mut self, kinds: &mut [Kind]) -> Result<usize, Fault>
-        ensures is { listed result kinds.new self.new.rest.now ≡ registers (length kinds.old) self.old.end [] self.old.rest.now }
-        ensures kept { self.new.end ≡ self.old.end }
+    #[tactic(auto, using(crate::proofs::Steps::registers_left))]
+    fn registers(self, kinds: &mut [Kind], input: &mut &[u8]) -> Result<usize, Fault>
+        ensures is { listed result kinds.new input.new.now ≡ registers (length kinds.old) self.end [] input.old.now }
         ensures bound { IfOk result (λ n. n ≤ length kinds.new) }
     {
-        let mut count = 0;
-        while let Opening::Register(fields) = opens(self.rest) {
-            if count >= kinds.len() {
-                return Err(Refusal::Count.at(self.place()));
-            }
-            let (kind, rest) = register(fields, self.end)?;
-            kinds[count] = kind;
-            count += 1;
-            self.rest = rest;
+        for (count, kind) in kinds.iter_mut().enumerate() {
+            let Opening::Register(fields) = Opening::of(input) else {
+                return Ok(count);
+            };
+            *input = fields;
+            *kind = self.register(input)?;
         }
-        Ok(count)
+        match Opening::of(input) {
+            Opening::Register(_) => Err(Refusal::Count.at(self.text().place(input))),
+            _ => Ok(kinds.len()),
+        }
     }
 
     /// Reads the rules of a program with registers of these kinds.
-    fn rules(&mut self, kinds: &[Kind]) -> Result<usize, Fault>
-        ensures is { counted result self.new.rest.now ≡ rules 32 self.old.end kinds.now 0 self.old.rest.now }
-        ensures kept { self.new.end ≡ self.old.end }
-        ensures bound { IfOk result (λ n. n ≤ 32) }
+    #[tactic(auto, using(crate::proofs::Steps::rules_left))]
+    fn rules(self, kinds: &[Kind], input: &mut &[u8]) -> Result<usize, Fault>
+        ensures { after result input.new.now ≡ rules 32 self.end kinds.now 0 input.old.now }
     {
         let mut count = 0;
-        while let Opening::Rule(fields) = opens(self.rest) {
-            if kinds.is_empty() {
-                return Err(Refusal::Order.at(self.place()));
-            }
-            if count >= MAX_RULES {
-                return Err(Refusal::Count.at(self.place()));
-            }
-            self.rest = rule(fields, self.end, kinds)?;
+        while let Opening::Rule(fields) = Opening::of(input) {
+            self.allow(kinds.len(), MAX_RULES - count, input)?;
+            *input = fields;
+            self.rule(kinds, input)?;
             count += 1;
         }
         Ok(count)
     }
 
     /// Reads the entries of a program with so many rules.
-    fn entries(&mut self, rules: usize) -> Result<usize, Fault>
-        requires { rules ≤ 32 }
-        ensures is { counted result self.new.rest.now ≡ entries 64 self.old.end rules 0 self.old.rest.now }
-        ensures kept { self.new.end ≡ self.old.end }
+    #[tactic(auto, using(crate::proofs::Steps::entries_left))]
+    fn entries(self, rules: usize, input: &mut &[u8]) -> Result<usize, Fault>
+        ensures { after result input.new.now ≡ entries 64 self.end rules 0 input.old.now }
     {
         let mut count = 0;
-        while let Opening::Entry(fields) = opens(self.rest) {
-            if rules == 0 {
-                return Err(Refusal::Order.at(self.place()));
-            }
-            if count >= MAX_ENTRIES {
-                return Err(Refusal::Count.at(self.place()));
-            }
-            self.rest = entry(fields, self.end, rules)?;
+        while let Opening::Entry(fields) = Opening::of(input) {
+            self.allow(rules, MAX_ENTRIES - count, input)?;
+            *input = fields;
+            self.entry(rules, input)?;
             count += 1;
         }
         Ok(count)
     }
 
-    /// Asks that the program ends here, behind so many entries.
-    fn end(&self, entries: usize) -> Result<(), Fault>
-        ensures { result ≡ ended self.now.end entries self.now.rest.now }
+    /// Asks that a record may stand here: behind a record of the sort before its own, where there is room for one more.
+    fn allow(self, before: usize, room: usize, input: &[u8]) -> Result<(), Fault>
+        ensures { result ≡ allowed self.end before room input.now }
     {
-        match self.rest {
+        if before == 0 {
+            Err(Refusal::Order.at(self.text().place(input)))
+        } else if room == 0 {
+            Err(Refusal::Count.at(self.text().place(input)))
+        } else {
+            Ok(())
+        }
+    }
+
+    /// Asks that the program ends here, behind so many entries.
+    fn finish(self, entries: usize, input: &[u8]) -> Result<(), Fault>
+        ensures { result ≡ ended self.end entries input.now }
+    {
+        match input {
             [] if entries > 0 => Ok(()),
-            [_, _, ..] => Err(Refusal::Order.at(self.place())),
+            [_, _, ..] => Err(Refusal::Order.at(self.text().place(input))),
             _ => Err(Refusal::Missing.at(self.end)),
         }
     }
@@ -120,15 +107,13 @@ pub fn examine(program: &[u8]) -> Result<Counts, Fault>
     if program.len() > MAX_BYTES {
         return Err(Refusal::Length.at(0));
     }
+    let records = Records { end: program.len() };
+    let mut input = program;
     let mut kinds = [Kind::Truth; MAX_REGISTERS];
-    let mut records = Records {
-        rest: program,
-        end: program.len(),
-    };
-    let registers = records.registers(&mut kinds)?;
-    let rules = records.rules(&kinds[0..registers])?;
-    let entries = records.entries(rules)?;
-    records.end(entries)?;
+    let registers = records.registers(&mut kinds, &mut input)?;
+    let rules = records.rules(&kinds[..registers], &mut input)?;
+    let entries = records.entries(rules, &mut input)?;
+    records.finish(entries, input)?;
     Ok(Counts {
         registers,
         rules,

@@ -1,12 +1,15 @@
 // The records of a program, each opened by a mark of two bytes.
 
-ghost use Rattle.std.specs.Prelude.{◌≡◌, ◌^◌, ◌≤◌, nat_lt};
-ghost use Rattle.program.specs.Verdict.{opening_of, four_of, register_of, rule_of, entry_of, body_at};
-ghost use Rattle.program.specs.Records.{seen, numbered, with_rest, rest_of};
+ghost use Rattle.std.specs.Prelude.{◌≡◌, ◌^◌, nat_lt};
+ghost use Rattle.terms.specs.declared.refusal.Refusal.TheVariants.{Missing};
+ghost use Rattle.tree.specs.Readers.{after, passed};
+ghost use Rattle.program.specs.Verdict.{opening_of, register_of, rule_of, entry_of};
+ghost use Rattle.program.specs.Records.{seen};
 
 use terms::kind::Kind;
 use terms::refusal::{Fault, Refusal};
 use tree::reader::read_body;
+use tree::text::Text;
 
 /// What stands where a record may begin: a mark, with the bytes behind it, or none.
 #[derive(Clone, Copy)]
@@ -18,90 +21,93 @@ pub(crate) enum Opening<'a> {
     Cut,
 }
 
-pub(crate) fn opens(bytes: &[u8]) -> Opening<'_>
-    ensures { seen result ≡ opening_of bytes.now }
-{
-    match bytes {
-        [0x52, 0x47, fields @ ..] => Opening::Register(fields),
-        [0x52, 0x4C, fields @ ..] => Opening::Rule(fields),
-        [0x53, 0x45, fields @ ..] => Opening::Entry(fields),
-        [_, _, ..] => Opening::Unknown,
-        _ => Opening::Cut,
+impl<'a> Opening<'a> {
+    /// What the bytes begin with.
+    pub(crate) fn of(bytes: &'a [u8]) -> Opening<'a>
+        ensures { seen result ≡ opening_of bytes.now }
+    {
+        match bytes {
+            [0x52, 0x47, fields @ ..] => Opening::Register(fields),
+            [0x52, 0x4C, fields @ ..] => Opening::Rule(fields),
+            [0x53, 0x45, fields @ ..] => Opening::Entry(fields),
+            [_, _, ..] => Opening::Unknown,
+            _ => Opening::Cut,
+        }
     }
 }
 
-/// A number of four bytes, and what is behind it.
-fn four(bytes: &[u8]) -> Option<(u32, &[u8])>
-    ensures { numbered result ≡ four_of bytes.now }
-{
-    match bytes {
-        [a, b, c, d, rest @ ..] => Some((u32::from_be_bytes([*a, *b, *c, *d]), rest)),
-        _ => None,
-    }
+/// The records of a program that ends at a place. Each is read behind its mark.
+#[derive(Clone, Copy)]
+pub(crate) struct Records {
+    pub(crate) end: usize,
 }
 
-/// A register's record behind its mark, in a program that ends at `end`: its kind, and what is behind it.
-pub(crate) fn register(fields: &[u8], end: usize) -> Result<(Kind, &[u8]), Fault>
-    ensures { with_rest result ≡ register_of end fields.now }
-{
-    let [byte, value @ ..] = fields else {
-        return Err(Refusal::Missing.at(end));
-    };
-    let Some(kind) = Kind::from_byte(*byte) else {
-        return Err(Refusal::Sort.at(end.saturating_sub(fields.len())));
-    };
-    match four(value) {
-        None => Err(Refusal::Missing.at(end)),
-        Some((number, rest)) if kind.fits(number) => Ok((kind, rest)),
-        Some(_) => Err(Refusal::Sort.at(end.saturating_sub(value.len()))),
+impl Records {
+    /// The program's text, in which no byte of a record may be missing.
+    pub(crate) fn text(self) -> Text
+        ensures { result ≡ record { end = self.end; short = Missing } }
+    {
+        Text {
+            end: self.end,
+            short: Refusal::Missing,
+        }
     }
-}
 
-/// A rule's record behind its mark, in a program that ends at `end`: what is behind it.
-pub(crate) fn rule<'a>(fields: &'a [u8], end: usize, kinds: &[Kind]) -> Result<&'a [u8], Fault>
-    ensures { rest_of result ≡ rule_of end kinds.now fields.now }
-{
-    let [high, low, bytes @ ..] = fields else {
-        return Err(Refusal::Missing.at(end));
-    };
-    let length = usize::from(u16::from_be_bytes([*high, *low]));
-    if length <= bytes.len() {
-        let rest = &bytes[length..];
-        read_body(
-            &bytes[0..length],
-            end.saturating_sub(rest.len()),
-            kinds,
-            Refusal::Fill,
-        )?;
-        Ok(rest)
-    } else {
-        read_body(bytes, end, kinds, Refusal::Missing)?;
-        Err(Refusal::Missing.at(end))
+    /// A register: its kind.
+    pub(crate) fn register(self, input: &mut &[u8]) -> Result<Kind, Fault>
+        ensures { after result input.new.now ≡ register_of self.end input.old.now }
+    {
+        let text = self.text();
+        let kind: Kind = text.coded(input)?;
+        let place = text.place(input);
+        if kind.fits(text.word(input)?) {
+            Ok(kind)
+        } else {
+            Err(Refusal::Sort.at(place))
+        }
     }
-}
 
-/// An entry's record behind its mark, in a program of so many rules that ends at `end`: what is behind it.
-pub(crate) fn entry(fields: &[u8], end: usize, rules: usize) -> Result<&[u8], Fault>
-    requires { rules ≤ 32 }
-    ensures { rest_of result ≡ entry_of end rules fields.now }
-{
-    let [number, mask @ ..] = fields else {
-        return Err(Refusal::Missing.at(end));
-    };
-    if usize::from(*number) >= rules {
-        return Err(Refusal::Name.at(end.saturating_sub(fields.len())));
+    /// A rule of a program whose registers have these kinds.
+    pub(crate) fn rule(self, kinds: &[Kind], input: &mut &[u8]) -> Result<(), Fault>
+        ensures { passed result input.new.now ≡ rule_of self.end kinds.now input.old.now }
+    {
+        let text = self.text();
+        let length = u16::from_be_bytes([text.byte(input)?, text.byte(input)?]);
+        match input.split_at_checked(usize::from(length)) {
+            Some((body, rest)) => {
+                let end = text.place(rest);
+                let short = Refusal::Fill;
+                *input = rest;
+                read_body(body, Text { end, short }, kinds)
+            }
+            None => {
+                read_body(input, text, kinds)?;
+                Err(Refusal::Missing.at(self.end))
+            }
+        }
     }
-    match four(mask) {
-        None => Err(Refusal::Missing.at(end)),
-        Some((named, rest)) if names_below(named, rules) => Ok(rest),
-        Some(_) => Err(Refusal::Name.at(end.saturating_sub(mask.len()))),
+
+    /// An entry of a program that has so many rules.
+    pub(crate) fn entry(self, rules: usize, input: &mut &[u8]) -> Result<(), Fault>
+        ensures { passed result input.new.now ≡ entry_of self.end rules input.old.now }
+    {
+        let text = self.text();
+        let place = text.place(input);
+        if usize::from(text.byte(input)?) >= rules {
+            return Err(Refusal::Name.at(place));
+        }
+        let place = text.place(input);
+        if names_below(rules, text.word(input)?) {
+            Ok(())
+        } else {
+            Err(Refusal::Name.at(place))
+        }
     }
 }
 
 /// Whether a mask names only rules below a number.
-fn names_below(mask: u32, rules: usize) -> bool
-    requires { rules ≤ 32 }
+fn names_below(rules: usize, mask: u32) -> bool
     ensures { result ≡ nat_lt mask (2 ^ rules) }
 {
-    u64::from(mask) >> rules == 0
+    rules >= 32 || mask >> rules == 0
 }

@@ -3,9 +3,6 @@ use Rattle.std.proofs.Common.{◌≡◌, ℕ, zero, suc, ◌-◌, cond, eqb, Lis
 use lib.Dec.{eqb-suc-zero}
 use Rattle.terms.specs.declared.refusal.Refusal.TheVariants.{Nesting}
 use Rattle.terms.specs.declared.kind.Kind.{Kind}
-use Rattle.tree.specs.declared.way.Way.{Way}
-use Rattle.tree.specs.declared.reader.Reader.{Reader}
-use Rattle.tree.specs.Ways.{body_of, scope_of}
 use Rattle.tree.specs.Reading.{Body, fault, and_then, place, value_at, value_parts, expression, action_at, action_parts, action}
 
 pub expression_is : (d : ℕ) (t : Body) (lets : ℕ) (scope : List Kind) (want : Kind) (s : List ℕ) →
@@ -25,19 +22,3 @@ pub action_is : (d : ℕ) (t : Body) (lets forks : ℕ) (scope : List Kind) (s :
 unfolding action
 action_is zero t lets forks scope s = refl
 action_is (suc d) t lets forks scope s = let e : suc d - 1 ≡ d = omega arith in simp (e, eqb-suc-zero)
-
--- The same as a reader meets them.
-pub expression_read : (r : Reader) (w : Way) (want : Kind) →
-    expression w.depth (body_of r) w.lets (scope_of w) want r.rest.now
-    ≡ and_then (value_at (body_of r) want r.rest.now) (λ n.
-    cond (eqb w.depth 0) (Err (fault Nesting (place r.end r.rest.now)))
-    (value_parts (body_of r) (expression (w.depth - 1) (body_of r)) w.lets (scope_of w) want r.rest.now n.0 n.1))
-expression_read r w want = expression_is w.depth (body_of r) w.lets (scope_of w) want r.rest.now
-
-pub action_read : (r : Reader) (w : Way) →
-    action w.depth (body_of r) w.lets w.forks (scope_of w) r.rest.now
-    ≡ and_then (action_at (body_of r) r.rest.now) (λ n.
-    cond (eqb w.depth 0) (Err (fault Nesting (place r.end r.rest.now)))
-    (action_parts (body_of r) (expression (w.depth - 1) (body_of r)) (action (w.depth - 1) (body_of r)) w.lets w.forks (scope_of w)
-    r.rest.now n.0 n.1))
-action_read r w = action_is w.depth (body_of r) w.lets w.forks (scope_of w) r.rest.now

@@ -1,2 +1,3 @@
 pub mod Reading
-pub mod Ways
+pub mod Paths
+pub mod Readers

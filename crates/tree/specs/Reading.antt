@@ -9,7 +9,9 @@ use Rattle.terms.specs.declared.kind.Operator.{Operator}
 use Rattle.terms.specs.declared.node.ValueNode.{ValueNode}
 use Rattle.terms.specs.declared.node.ActionNode.{ActionNode}
 pub use Rattle.terms.specs.Refusals.{fault}
-use Rattle.terms.specs.Kinds.{kind_of, same, operator_of}
+pub use Rattle.terms.specs.Inputs.{place}
+use Rattle.terms.specs.Inputs.{four_of}
+use Rattle.terms.specs.Kinds.{kind_of, same, operator_of, taken, given}
 use Rattle.terms.specs.Nodes.{value_node, action_node}
 
 -- One reading after another: the first fault ends it.
@@ -37,14 +39,23 @@ pub record Body : Type 0 where
   pub kinds : List Kind
   pub short : Refusal
 
--- The place of the next byte, where s is what is left of a text that ends at `end`.
-abbrev pub place : ℕ → List ℕ → ℕ
-place end s = end - length s
+-- One byte of a text that ends at `end`, where q is refused if the byte is missing.
+abbrev pub next : ℕ → Refusal → List ℕ → Read ℕ
+next end q [] = Err (fault q end)
+next end q (b ∷ s) = Ok (b, s)
 
--- One byte.
+-- A number of four bytes, the highest first.
+abbrev pub number : ℕ → Refusal → List ℕ → Read ℕ
+number end q s = or_fault (fault q end) (four_of s)
+
+-- A byte that stands for something, where f says what each byte stands for, if for anything.
+abbrev pub coded : {A : Type 0} → ℕ → Refusal → (ℕ → Option A) → List ℕ → Read A
+coded end q f s =
+    and_then (next end q s) (λ b. and_then (or_fault (fault Sort (place end s)) (f b.0)) (λ x. Ok (x, b.1)))
+
+-- One byte of a body.
 abbrev pub byte_of : Body → List ℕ → Read ℕ
-byte_of t [] = Err (fault t.short t.end)
-byte_of t (b ∷ s) = Ok (b, s)
+byte_of t s = next t.end t.short s
 
 -- Four bytes, whatever they are.
 abbrev pub word_of : Body → List ℕ → Passed
@@ -58,14 +69,13 @@ truth_of t s = and_then (byte_of t s) (λ b. cond (nat_lt b.0 2) (Ok b.1) (Err (
 
 -- A type.
 abbrev pub kind_at : Body → List ℕ → Read Kind
-kind_at t s =
-    and_then (byte_of t s) (λ b. and_then (or_fault (fault Sort (place t.end s)) (kind_of b.0)) (λ k. Ok (k, b.1)))
+kind_at t s = coded t.end t.short kind_of s
 
 -- An operator that gives what is wanted.
 abbrev pub operator_at : Body → Kind → List ℕ → Read Operator
 operator_at t want s =
     and_then (byte_of t s) (λ b. and_then (or_fault (fault Sort (place t.end s)) (operator_of b.0)) (λ o.
-    cond (same o.gives want) (Ok (o, b.1)) (Err (fault Sort (place t.end s)))))
+    cond (same (given o) want) (Ok (o, b.1)) (Err (fault Sort (place t.end s)))))
 
 -- A number that names one of the things of these kinds: its kind.
 abbrev pub named_of : Body → List Kind → List ℕ → Read Kind
@@ -97,8 +107,7 @@ value_at t want s =
 
 -- The byte of a node that gives writes.
 abbrev pub action_at : Body → List ℕ → Read ActionNode
-action_at t s =
-    and_then (byte_of t s) (λ b. and_then (or_fault (fault Sort (place t.end s)) (action_node b.0)) (λ n. Ok (n, b.1)))
+action_at t s = coded t.end t.short action_node s
 
 -- A reader of expressions: how many lets may still be nested, what the lets around have bound, what is wanted, the bytes.
 abbrev pub Values : Type 0
@@ -116,7 +125,7 @@ value_parts t value lets scope want from ValueNode.Truth s = truth_of t s
 value_parts t value lets scope want from ValueNode.Variable s = wanted_of t scope want s
 value_parts t value lets scope want from ValueNode.Operator s =
     and_then (operator_at t want s) (λ o.
-    and_then (value lets scope o.0.takes o.1) (λ l. value lets scope o.0.takes l))
+    and_then (value lets scope (taken o.0) o.1) (λ l. value lets scope (taken o.0) l))
 value_parts t value lets scope want from ValueNode.Choice s =
     and_then (value lets scope Truth s) (λ c. and_then (value lets scope want c) (λ l. value lets scope want l))
 value_parts t value lets scope want from ValueNode.Guard s =

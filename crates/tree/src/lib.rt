@@ -2,4 +2,5 @@
 #![tactic(auto)]
 
 pub mod reader;
-mod way;
+pub mod text;
+pub mod way;

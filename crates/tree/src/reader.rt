@@ -1,25 +1,20 @@
 // The reader of a rule's body: one action, whose nodes are read in byte order.
 
-ghost use Rattle.std.specs.Prelude.{◌≡◌, ◌+◌, ◌≤◌, length};
-ghost use Rattle.tree.specs.Reading.{byte_of, place, word_of, truth_of, kind_at, operator_at, named_of, wanted_of, value_at, action_at, suits, expression, action, tree};
-ghost use Rattle.tree.specs.Ways.{body_of, after, passed, scope_of, Kept};
+ghost use Rattle.std.specs.Prelude.{◌≡◌};
+ghost use Rattle.tree.specs.Reading.{word_of, truth_of, operator_at, named_of, wanted_of, value_at, suits, expression, action, tree};
+ghost use Rattle.tree.specs.Readers.{body_of, after, passed};
 
+use crate::text::Text;
 use crate::way::Way;
 use terms::kind::{Kind, Operator};
 use terms::node::{ActionNode, ValueNode};
 use terms::refusal::{Fault, Refusal};
 
-/// A body that is being read.
-#[derive(Drop)]
+/// A reader of a body, with the kinds of the registers.
+#[derive(Clone, Copy)]
 struct Reader<'a> {
-    /// The bytes that are left.
-    rest: &'a [u8],
-    /// The place behind the last of them.
-    end: usize,
-    /// The kinds of the registers.
+    text: Text,
     kinds: &'a [Kind],
-    /// What is refused where a byte is missing.
-    short: Refusal,
 }
 
 /// Whether a node may give what is wanted, as far as its byte tells.
@@ -34,229 +29,159 @@ fn suits(want: Kind, node: ValueNode) -> bool
 }
 
 impl Reader<'_> {
-    fn place(&self) -> usize
-        ensures { result ≡ place self.now.end self.now.rest.now }
+    fn word(&self, input: &mut &[u8]) -> Result<(), Fault>
+        ensures { passed result input.new.now ≡ word_of (body_of self.now) input.old.now }
     {
-        self.end.saturating_sub(self.rest.len())
-    }
-
-    fn byte(&mut self) -> Result<u8, Fault>
-        ensures is { after result self.new ≡ byte_of (body_of self.old) self.old.rest.now }
-        ensures kept { Kept self.old self.new }
-    {
-        let [first, rest @ ..] = self.rest else {
-            return Err(self.short.at(self.end));
-        };
-        self.rest = rest;
-        Ok(*first)
-    }
-
-    fn word(&mut self) -> Result<(), Fault>
-        ensures is { passed result self.new ≡ word_of (body_of self.old) self.old.rest.now }
-        ensures kept { Kept self.old self.new }
-    {
-        self.byte()?;
-        self.byte()?;
-        self.byte()?;
-        self.byte()?;
+        self.text.word(input)?;
         Ok(())
     }
 
-    fn truth(&mut self) -> Result<(), Fault>
-        ensures is { passed result self.new ≡ truth_of (body_of self.old) self.old.rest.now }
-        ensures kept { Kept self.old self.new }
+    fn truth(&self, input: &mut &[u8]) -> Result<(), Fault>
+        ensures { passed result input.new.now ≡ truth_of (body_of self.now) input.old.now }
     {
-        let place = self.place();
-        if self.byte()? < 2 {
+        let place = self.text.place(input);
+        if self.text.byte(input)? < 2 {
             Ok(())
         } else {
             Err(Refusal::Sort.at(place))
         }
     }
 
-    fn kind(&mut self) -> Result<Kind, Fault>
-        ensures is { after result self.new ≡ kind_at (body_of self.old) self.old.rest.now }
-        ensures kept { Kept self.old self.new }
+    /// An operator that gives what is wanted.
+    fn operator(&self, want: Kind, input: &mut &[u8]) -> Result<Operator, Fault>
+        ensures { after result input.new.now ≡ operator_at (body_of self.now) want input.old.now }
     {
-        let place = self.place();
-        match Kind::from_byte(self.byte()?) {
-            Some(kind) => Ok(kind),
-            None => Err(Refusal::Sort.at(place)),
-        }
-    }
-
-    fn operator(&mut self, want: Kind) -> Result<Operator, Fault>
-        ensures is { after result self.new ≡ operator_at (body_of self.old) want self.old.rest.now }
-        ensures kept { Kept self.old self.new }
-    {
-        let place = self.place();
-        match Operator::from_byte(self.byte()?) {
-            Some(operator) if operator.gives == want => Ok(operator),
-            _ => Err(Refusal::Sort.at(place)),
-        }
-    }
-
-    fn value_node(&mut self, want: Kind) -> Result<ValueNode, Fault>
-        ensures is { after result self.new ≡ value_at (body_of self.old) want self.old.rest.now }
-        ensures kept { Kept self.old self.new }
-    {
-        let place = self.place();
-        match ValueNode::from_byte(self.byte()?) {
-            Some(node) if suits(want, node) => Ok(node),
-            _ => Err(Refusal::Sort.at(place)),
-        }
-    }
-
-    fn action_node(&mut self) -> Result<ActionNode, Fault>
-        ensures is { after result self.new ≡ action_at (body_of self.old) self.old.rest.now }
-        ensures kept { Kept self.old self.new }
-    {
-        let place = self.place();
-        match ActionNode::from_byte(self.byte()?) {
-            Some(node) => Ok(node),
-            None => Err(Refusal::Sort.at(place)),
-        }
-    }
-
-    /// A register that is assigned: its kind.
-    fn target(&mut self) -> Result<Kind, Fault>
-        ensures is { after result self.new ≡ named_of (body_of self.old) self.old.kinds.now self.old.rest.now }
-        ensures kept { Kept self.old self.new }
-    {
-        let place = self.place();
-        let number = usize::from(self.byte()?);
-        if number < self.kinds.len() {
-            Ok(self.kinds[number])
+        let place = self.text.place(input);
+        let operator: Operator = self.text.coded(input)?;
+        if operator.gives() == want {
+            Ok(operator)
         } else {
-            Err(Refusal::Name.at(place))
+            Err(Refusal::Sort.at(place))
         }
     }
 
-    /// A register that is read, of the kind that is wanted.
-    fn register(&mut self, want: Kind) -> Result<(), Fault>
-        ensures is { passed result self.new ≡ wanted_of (body_of self.old) self.old.kinds.now want self.old.rest.now }
-        ensures kept { Kept self.old self.new }
+    /// A node that may give what is wanted.
+    fn value_node(&self, want: Kind, input: &mut &[u8]) -> Result<ValueNode, Fault>
+        ensures { after result input.new.now ≡ value_at (body_of self.now) want input.old.now }
     {
-        let place = self.place();
-        if self.target()? == want {
+        let place = self.text.place(input);
+        let node = self.text.coded(input)?;
+        if suits(want, node) {
+            Ok(node)
+        } else {
+            Err(Refusal::Sort.at(place))
+        }
+    }
+
+    /// A number that names one of the things of these kinds: its kind.
+    fn named(&self, kinds: &[Kind], input: &mut &[u8]) -> Result<Kind, Fault>
+        ensures { after result input.new.now ≡ named_of (body_of self.now) kinds.now input.old.now }
+    {
+        let place = self.text.place(input);
+        let number = usize::from(self.text.byte(input)?);
+        kinds.get(number).copied().ok_or(Refusal::Name.at(place))
+    }
+
+    /// The same, where the thing named has to be of the kind that is wanted.
+    fn wanted(&self, kinds: &[Kind], want: Kind, input: &mut &[u8]) -> Result<(), Fault>
+        ensures { passed result input.new.now ≡ wanted_of (body_of self.now) kinds.now want input.old.now }
+    {
+        let place = self.text.place(input);
+        if self.named(kinds, input)? == want {
             Ok(())
         } else {
             Err(Refusal::Name.at(place))
         }
     }
 
-    /// A let on the way, of the kind that is wanted.
-    fn variable(&mut self, way: Way, want: Kind) -> Result<(), Fault>
-        requires { way.bound ≤ 8 }
-        ensures is { passed result self.new ≡ wanted_of (body_of self.old) (scope_of way) want self.old.rest.now }
-        ensures kept { Kept self.old self.new }
+    #[tactic(auto, using(crate::proofs::Steps::expression_is))]
+    fn expression(&self, way: &Way<Kind>, want: Kind, input: &mut &[u8]) -> Result<(), Fault>
+        ensures { passed result input.new.now ≡ expression way.now.depth (body_of self.now) way.now.lets way.now.scope want input.old.now }
     {
-        let place = self.place();
-        match way.kind_of(usize::from(self.byte()?)) {
-            Some(kind) if kind == want => Ok(()),
-            _ => Err(Refusal::Name.at(place)),
-        }
-    }
-
-    fn expression(&mut self, way: Way, want: Kind) -> Result<(), Fault>
-        requires { way.bound + way.lets ≤ 8 }
-        ensures is { passed result self.new ≡ expression way.depth (body_of self.old) way.lets (scope_of way) want self.old.rest.now }
-        ensures kept { Kept self.old self.new }
-    {
-        let place = self.place();
-        let node = self.value_node(want)?;
-        let way = way.deeper(place)?;
+        let too_deep = Refusal::Nesting.at(self.text.place(input));
+        let node = self.value_node(want, input)?;
+        let way = way.deeper().ok_or(too_deep)?;
         match node {
-            ValueNode::Register => self.register(want),
-            ValueNode::Word => self.word(),
-            ValueNode::Truth => self.truth(),
-            ValueNode::Variable => self.variable(way, want),
+            ValueNode::Register => self.wanted(self.kinds, want, input),
+            ValueNode::Word => self.word(input),
+            ValueNode::Truth => self.truth(input),
+            ValueNode::Variable => self.wanted(way.scope(), want, input),
             ValueNode::Operator => {
-                let operator = self.operator(want)?;
-                self.expression(way, operator.takes)?;
-                self.expression(way, operator.takes)
+                let kind = self.operator(want, input)?.takes();
+                self.expression(&way, kind, input)?;
+                self.expression(&way, kind, input)
             }
             ValueNode::Choice => {
-                self.expression(way, Kind::Truth)?;
-                self.expression(way, want)?;
-                self.expression(way, want)
+                self.expression(&way, Kind::Truth, input)?;
+                self.expression(&way, want, input)?;
+                self.expression(&way, want, input)
             }
             ValueNode::Guard => {
-                self.expression(way, want)?;
-                self.expression(way, Kind::Truth)
+                self.expression(&way, want, input)?;
+                self.expression(&way, Kind::Truth, input)
             }
             ValueNode::Let => {
-                let way = way.past_let(place)?;
-                let kind = self.kind()?;
-                self.expression(way, kind)?;
-                self.expression(way.bind(kind), want)
+                let within = way.past_let().ok_or(too_deep)?;
+                let kind = self.text.coded(input)?;
+                self.expression(within.first(), kind, input)?;
+                self.expression(&within.bind(kind), want, input)
             }
         }
     }
 
-    fn action(&mut self, way: Way) -> Result<(), Fault>
-        requires { way.bound + way.lets ≤ 8 }
-        ensures is { passed result self.new ≡ action way.depth (body_of self.old) way.lets way.forks (scope_of way) self.old.rest.now }
-        ensures kept { Kept self.old self.new }
+    #[tactic(auto, using(crate::proofs::Steps::action_is))]
+    fn action(&self, way: &Way<Kind>, input: &mut &[u8]) -> Result<(), Fault>
+        ensures { passed result input.new.now ≡ action way.now.depth (body_of self.now) way.now.lets way.now.forks way.now.scope input.old.now }
     {
-        let place = self.place();
-        let node = self.action_node()?;
-        let way = way.deeper(place)?;
+        let too_deep = Refusal::Nesting.at(self.text.place(input));
+        let node = self.text.coded(input)?;
+        let way = way.deeper().ok_or(too_deep)?;
         match node {
             ActionNode::Assign => {
-                let kind = self.target()?;
-                self.expression(way, kind)
+                let kind = self.named(self.kinds, input)?;
+                self.expression(&way, kind, input)
             }
             ActionNode::If => {
-                self.expression(way, Kind::Truth)?;
-                self.action(way)
+                self.expression(&way, Kind::Truth, input)?;
+                self.action(&way, input)
             }
             ActionNode::Parallel => {
-                let way = way.past_fork(place)?;
-                self.action(way)?;
-                self.action(way)
+                let way = way.past_fork().ok_or(too_deep)?;
+                self.action(&way, input)?;
+                self.action(&way, input)
             }
             ActionNode::Sequence => {
-                self.action(way)?;
-                self.action(way)
+                self.action(&way, input)?;
+                self.action(&way, input)
             }
             ActionNode::When => {
-                self.action(way)?;
-                self.expression(way, Kind::Truth)
+                self.action(&way, input)?;
+                self.expression(&way, Kind::Truth, input)
             }
             ActionNode::Let => {
-                let way = way.past_let(place)?;
-                let kind = self.kind()?;
-                self.expression(way, kind)?;
-                self.action(way.bind(kind))
+                let within = way.past_let().ok_or(too_deep)?;
+                let kind = self.text.coded(input)?;
+                self.expression(within.first(), kind, input)?;
+                self.action(&within.bind(kind), input)
             }
             ActionNode::Local => {
-                let way = way.past_fork(place)?;
-                self.action(way)
+                let way = way.past_fork().ok_or(too_deep)?;
+                self.action(&way, input)
             }
         }
     }
 }
 
-/// Reads a body, the bytes up to `end`, which one action has to fill.
-pub fn read_body<'a>(
-    bytes: &'a [u8],
-    end: usize,
-    kinds: &'a [Kind],
-    short: Refusal,
-) -> Result<(), Fault>
-    ensures { result ≡ tree (record { end = end; kinds = kinds.now; short = short }) bytes.now }
+/// Reads a body, all bytes of a text, which one action has to fill.
+pub fn read_body(bytes: &[u8], text: Text, kinds: &[Kind]) -> Result<(), Fault>
+    ensures { result ≡ tree (record { end = text.end; kinds = kinds.now; short = text.short }) bytes.now }
 {
-    let mut reader = Reader {
-        rest: bytes,
-        end,
-        kinds,
-        short,
-    };
-    reader.action(Way::to_body())?;
-    if reader.rest.is_empty() {
+    let reader = Reader { text, kinds };
+    let mut input = bytes;
+    reader.action(&Way::to_body(Kind::Truth), &mut input)?;
+    if input.is_empty() {
         Ok(())
     } else {
-        Err(Refusal::Fill.at(reader.place()))
+        Err(Refusal::Fill.at(text.place(input)))
     }
 }

@@ -1,11 +1,9 @@
 // The way from a rule's body down to a node, as far as the rules of nesting and naming ask for it.
 
-ghost use Rattle.std.specs.Prelude.{◌≡◌, ℕ, ◌+◌, ◌<◌, ◌≤◌, [], ◌∷◌, ◌++◌, length, if◌then◌else◌, Some, None, nat_lt, slice_index_or};
-ghost use Rattle.terms.specs.declared.kind.Kind.TheVariants.{Truth};
-ghost use Rattle.tree.specs.Ways.{scope_of, deeper, past_let, past_fork};
+ghost use Rattle.std.specs.Prelude.{◌≡◌, ◌+◌, ◌<◌, ◌≤◌, ◌∷◌, [], ◌++◌, length, take};
+ghost use Rattle.tree.specs.Paths.{Path, to_body, deeper, past_let, past_fork, bind};
 
-use terms::kind::Kind;
-use terms::refusal::{Fault, Refusal};
+use std::marker::Model;
 
 /// No node is deeper than this, the body's action having depth 1.
 const MAX_DEPTH: u8 = 24;
@@ -14,79 +12,104 @@ const MAX_LETS: usize = 8;
 /// At most so many parallel actions and local guards lie on the way to a node, itself included.
 const MAX_FORKS: u8 = 8;
 
-/// What may still be nested on the way to a node, and the kinds that the lets in whose last part it lies have bound.
-#[derive(Clone, Copy)]
-pub(crate) struct Way {
+/// What may still be nested on the way to a node, and what the lets in whose last part it lies have bound.
+#[derive(Drop)]
+pub struct Way<T: Copy> {
     depth: u8,
     lets: u8,
     forks: u8,
-    scope: [Kind; MAX_LETS],
+    values: [T; MAX_LETS],
     bound: usize,
 }
 
-impl Way {
-    pub(crate) fn to_body() -> Way
-        ensures { (result.depth ≡ 24) × (result.lets ≡ 8) × (result.forks ≡ 8) × (result.bound ≡ 0) × (scope_of result ≡ []) }
+impl<T: Copy> Model for Way<T> {
+    ghost Value = { Path T };
+
+    ghost view = { λ w. record { depth = w.depth; lets = w.lets; forks = w.forks; scope = take w.bound w.values } };
+
+    ghost invariant = { λ w. w.bound + w.lets ≤ 8 };
+}
+
+impl<T: Copy> Way<T> {
+    /// The way to a body, where nothing is bound yet; the argument fills the places of what will be bound.
+    pub fn to_body(filler: T) -> Way<T>
+        ensures { result ≡ to_body }
     {
         Way {
             depth: MAX_DEPTH,
             lets: MAX_LETS as u8,
             forks: MAX_FORKS,
-            scope: [Kind::Truth; MAX_LETS],
+            values: [filler; MAX_LETS],
             bound: 0,
         }
     }
 
-    pub(crate) fn deeper(self, place: usize) -> Result<Way, Fault>
-        ensures { result ≡ deeper self place }
+    /// The way to the parts of a node, one deeper.
+    pub fn deeper(&self) -> Option<Way<T>>
+        ensures { result ≡ deeper self.now }
     {
-        match self.depth.checked_sub(1) {
-            Some(depth) => Ok(Way { depth, ..self }),
-            None => Err(Refusal::Nesting.at(place)),
-        }
+        let depth = self.depth.checked_sub(1)?;
+        Some(Way { depth, ..*self })
     }
 
-    pub(crate) fn past_let(self, place: usize) -> Result<Way, Fault>
-        ensures { result ≡ past_let self place }
+    /// What the lets on the way have bound, the outermost first.
+    pub fn scope(&self) -> &[T]
+        ensures { result.now ≡ self.now.scope }
     {
-        match self.lets.checked_sub(1) {
-            Some(lets) => Ok(Way { lets, ..self }),
-            None => Err(Refusal::Nesting.at(place)),
-        }
+        &self.values[..self.bound]
     }
 
-    pub(crate) fn past_fork(self, place: usize) -> Result<Way, Fault>
-        ensures { result ≡ past_fork self place }
+    /// The way past a let.
+    pub fn past_let(&self) -> Option<PastLet<T>>
+        ensures { result ≡ past_let self.now }
     {
-        match self.forks.checked_sub(1) {
-            Some(forks) => Ok(Way { forks, ..self }),
-            None => Err(Refusal::Nesting.at(place)),
-        }
+        let lets = self.lets.checked_sub(1)?;
+        Some(PastLet {
+            way: Way { lets, ..*self },
+        })
     }
 
-    /// The way to the last part of a let, which sees what the let has bound.
-    pub(crate) fn bind(self, kind: Kind) -> Way
-        requires { self.bound < 8 }
-        ensures { (result.depth ≡ self.depth) × (result.lets ≡ self.lets) × (result.forks ≡ self.forks) × (result.bound ≡ self.bound + 1) × (scope_of result ≡ scope_of self ++ (kind ∷ [])) }
+    /// The way to the parts of a node that is a parallel action or a local guard.
+    pub fn past_fork(&self) -> Option<Way<T>>
+        ensures { result ≡ past_fork self.now }
     {
-        let mut scope = self.scope;
-        scope[self.bound] = kind;
+        let forks = self.forks.checked_sub(1)?;
+        Some(Way { forks, ..*self })
+    }
+}
+
+/// A way past a let, on which there is room for what the let binds.
+#[derive(Drop)]
+pub struct PastLet<T: Copy> {
+    way: Way<T>,
+}
+
+impl<T: Copy> Model for PastLet<T> {
+    ghost Value = { Path T };
+
+    ghost view = { λ p. p.way };
+
+    ghost invariant = { λ p. length p.way.scope + p.way.lets < 8 };
+}
+
+impl<T: Copy> PastLet<T> {
+    /// The way to the part whose value is bound.
+    pub fn first(&self) -> &Way<T>
+        ensures { result.now ≡ self.now }
+    {
+        &self.way
+    }
+
+    /// The way to the last part, which sees what was bound.
+    pub fn bind(&self, value: T) -> Way<T>
+        ensures { result ≡ bind self.now value }
+    {
+        let mut values = self.way.values;
+        values[self.way.bound] = value;
         Way {
-            scope,
-            bound: self.bound + 1,
-            ..self
-        }
-    }
-
-    /// The kind that a let on the way has bound.
-    pub(crate) fn kind_of(self, number: usize) -> Option<Kind>
-        requires { self.bound ≤ 8 }
-        ensures { result ≡ (if nat_lt number (length (scope_of self)) then Some (slice_index_or (scope_of self) number Truth) else None) }
-    {
-        if number < self.bound {
-            Some(self.scope[number])
-        } else {
-            None
+            values,
+            bound: self.way.bound + 1,
+            ..self.way
         }
     }
 }

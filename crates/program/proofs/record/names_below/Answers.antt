@@ -1,5 +1,7 @@
-use Rattle.std.proofs.Common.{◌≡◌, ℕ, ◌*◌, ◌/◌, ◌^◌, ◌<◌, Bool, true, false, eqb, ltb, sym, refl, ap, ◌∙◌, div-lt_iff_lt-mul, one-mul, arith, pow_pos, ltb-false, ltb-true, eq-eqb, ne_eqb}
-use native.Mathlib.Nat.{div-eq_of_lt}
+use Rattle.std.proofs.Common.{◌≡◌, ℕ, ◌*◌, ◌/◌, ◌^◌, ◌<◌, Bool, true, false, eqb, ltb, sym, refl, ◌∙◌, div-lt_iff_lt-mul, one-mul, arith, pow_pos, ltb-false, ltb-true, eq-eqb, ne_eqb}
+use Rattle.std.proofs.Math.Nat.{div-eq_of_lt}
+use Rattle.std.proofs.Math.Pow.{pow_mono}
+use Rattle.std.proofs.lemmas.Bool.Decides.{nat_tests}
 use Rattle.program.proofs.record.names_below.Goals as goal
 
 -- What is left of a number behind its low digits is nothing exactly where it has no others.
@@ -11,5 +13,8 @@ shifted m p h = go (ltb m p) refl
     go false e =
         ne_eqb (m / p) 0 (λ z. let b : m < 1 * p = (div-lt_iff_lt-mul {k = p} {x = m} {y = 1} h).0 (omega arith) in omega (arith, ltb-false m p e, one-mul p)) ∙ sym e
 
-pub returns : goal.returns
-returns c = ap (λ (x : ℕ). eqb (x / 2 ^ c.args.rules) 0) c.from.ensures ∙ shifted c.args.mask (2 ^ c.args.rules) (pow_pos c.args.rules)
+pub returns-then-rules-ge32 : goal.returns-then-rules-ge32
+returns-then-rules-ge32 c = let p = pow_mono c.if-rules-ge32.true in grind (arith, nat_tests)
+
+pub returns-else-rules-ge32 : goal.returns-else-rules-ge32
+returns-else-rules-ge32 c = shifted c.args.mask (2 ^ c.args.rules) (pow_pos c.args.rules)
