@@ -5,10 +5,11 @@ ghost use Rattle.std.specs.Prelude.{◌≡◌};
 ghost use Rattle.program.specs.Decoding.{register_of};
 ghost use Rattle.parts.specs.Parts.{body_of, OfRule, register_taken, body_taken};
 
+use terms::input::word;
 use terms::kind::Kind;
 
 /// A register's record.
-#[derive(Clone, Copy)]
+#[derive(Clone, Copy, Debug, PartialEq, Eq)]
 pub struct Register {
     pub kind: Kind,
     /// The value that it begins with.
@@ -19,11 +20,12 @@ pub struct Register {
 pub fn take_register(bytes: &[u8]) -> Option<(Register, &[u8])>
     ensures { register_taken result ≡ register_of bytes.now }
 {
-    let [0x52, 0x47, kind, a, b, c, d, rest @ ..] = bytes else {
+    let [0x52, 0x47, kind, rest @ ..] = bytes else {
         return None;
     };
-    let kind = Kind::from_byte(*kind)?;
-    let initial = u32::from_be_bytes([*a, *b, *c, *d]);
+    let kind = Kind::try_from(*kind).ok()?;
+    let mut rest = rest;
+    let initial = word(&mut rest)?;
     Some((Register { kind, initial }, rest))
 }
 
@@ -35,10 +37,5 @@ pub fn take_rule(bytes: &[u8]) -> Option<(&[u8], &[u8])>
     let [0x52, 0x4C, high, low, rest @ ..] = bytes else {
         return None;
     };
-    let length = usize::from(u16::from_be_bytes([*high, *low]));
-    if length <= rest.len() {
-        Some(rest.split_at(length))
-    } else {
-        None
-    }
+    rest.split_at_checked(usize::from(u16::from_be_bytes([*high, *low])))
 }

@@ -33,13 +33,13 @@ impl Records {
         ensures bound { IfOk result (λ n. n ≤ length kinds.new) }
     {
         for (count, kind) in kinds.iter_mut().enumerate() {
-            let Opening::Register(fields) = Opening::of(input) else {
+            let Opening::Register(fields) = Opening::from(*input) else {
                 return Ok(count);
             };
             *input = fields;
             *kind = self.register(input)?;
         }
-        match Opening::of(input) {
+        match Opening::from(*input) {
             Opening::Register(_) => Err(Refusal::Count.at(self.text().place(input))),
             _ => Ok(kinds.len()),
         }
@@ -51,7 +51,7 @@ impl Records {
         ensures { after result input.new.now ≡ rules 32 self.end kinds.now 0 input.old.now }
     {
         let mut count = 0;
-        while let Opening::Rule(fields) = Opening::of(input) {
+        while let Opening::Rule(fields) = Opening::from(*input) {
             self.allow(kinds.len(), MAX_RULES - count, input)?;
             *input = fields;
             self.rule(kinds, input)?;
@@ -66,7 +66,7 @@ impl Records {
         ensures { after result input.new.now ≡ entries 64 self.end rules 0 input.old.now }
     {
         let mut count = 0;
-        while let Opening::Entry(fields) = Opening::of(input) {
+        while let Opening::Entry(fields) = Opening::from(*input) {
             self.allow(rules, MAX_ENTRIES - count, input)?;
             *input = fields;
             self.entry(rules, input)?;

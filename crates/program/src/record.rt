@@ -21,11 +21,11 @@ pub(crate) enum Opening<'a> {
     Cut,
 }
 
-impl<'a> Opening<'a> {
-    /// What the bytes begin with.
-    pub(crate) fn of(bytes: &'a [u8]) -> Opening<'a>
-        ensures { seen result ≡ opening_of bytes.now }
-    {
+/// What the bytes begin with.
+impl<'a> From<&'a [u8]> for Opening<'a> {
+    ghost from_gives = { λ s o. seen o ≡ opening_of s.now };
+
+    fn from(bytes: &'a [u8]) -> Opening<'a> {
         match bytes {
             [0x52, 0x47, fields @ ..] => Opening::Register(fields),
             [0x52, 0x4C, fields @ ..] => Opening::Rule(fields),
