@@ -1,37 +1,37 @@
--- A text that a pattern has taken apart, as a list, and what the definitions make of it.
-use Rattle.std.proofs.Common.{◌≡◌, ℕ, ◌+◌, ◌-◌, ◌*◌, ◌<◌, ◌≤◌, Bool, true, false, cond, List, [], ◌∷◌, ◌++◌, length, get_or, take, drop, Ok, Err, Result, refl, ap, append_assoc, arith}
-use Rattle.std.proofs.lemmas.List.{take_rest}
+-- What is at the front of a text, and what the definitions make of it.
+use Rattle.std.proofs.Common.{◌≡◌, ℕ, ◌+◌, ◌*◌, ◌<◌, ◌≤◌, ◌⊎◌, inl, inr, Bool, true, false, cond, List, [], ◌∷◌, ◌++◌, length, Ok, Err, Result, refl, sym, ap, ◌∙◌, append_assoc, arith, length-drop}
+use Rattle.std.proofs.lemmas.List.Sums.{take_while-cons}
 use Rattle.command.specs.declared.mistake.Mistake.{Mistake}
 use Rattle.command.specs.declared.mistake.Mistake.TheVariants.{LoneDigit}
-use Rattle.command.specs.Words.{white, stripped}
-use Rattle.command.specs.Digits.{and_then, digit_of, second_of, pair_of, bytes_of}
+use Rattle.command.specs.Steps.{and_then}
+use Rattle.command.specs.Words.{white, margin, stripped}
+use Rattle.command.specs.Digits.{digit_of, second_of, pair_of, bytes_of}
 
--- What a pattern `rest @ ..` behind one byte holds.
-abbrev pub after : List ℕ → List ℕ
-after s = take (length s - 1) (drop 1 s)
+-- A first byte of white space goes, and any other stays with all that is behind it.
+abbrev Front : ℕ → List ℕ → Type 0
+Front b s = ((white b ≡ true) × (stripped (b ∷ s) ≡ stripped s)) ⊎ ((white b ≡ false) × (stripped (b ∷ s) ≡ b ∷ s))
 
-pub stripped_as : (s : List ℕ) → 1 ≤ length s → stripped s ≡ cond (white (get_or s 0 0)) (stripped (after s)) s
-stripped_as [] h = absurd (omega arith)
-stripped_as (b ∷ s) h = rw (take_rest (b ∷ s) 1)
+front_by : (b : ℕ) (s : List ℕ) (w : Bool) → white b ≡ w → Front b s
+front_by b s true e = inl (e, rw (take_while-cons white b s, e))
+front_by b s false e = inr (e, rw (take_while-cons white b s, e))
 
-pub pair_as : (s : List ℕ) → 1 ≤ length s → pair_of s ≡ and_then (digit_of (get_or s 0 0)) (λ h. second_of h (after s))
-pair_as [] h = absurd (omega arith)
-pair_as (a ∷ s) h = rw (take_rest (a ∷ s) 1)
+front : (b : ℕ) (s : List ℕ) → Front b s
+front b s = front_by b s (white b) refl
 
-pub second_as : (h : ℕ) (s : List ℕ) → 1 ≤ length s →
-    second_of h s ≡ cond (white (get_or s 0 0)) (Err LoneDigit) (and_then (digit_of (get_or s 0 0)) (λ l. Ok (h * 16 + l, after s)))
-second_as h [] e = absurd (omega arith)
-second_as h (b ∷ s) e = rw (take_rest (b ∷ s) 1)
+pub stripped_twice : (s : List ℕ) → stripped (stripped s) ≡ stripped s
+stripped_twice [] = refl
+stripped_twice (b ∷ s) =
+    elim (front b s) [ inl p ↦ ap stripped p.1 ∙ stripped_twice s ∙ sym p.1 | inr p ↦ ap stripped p.1 ]
 
-pub stripped_none : (s : List ℕ) → length s < 1 → stripped s ≡ s
-stripped_none [] h = refl
-stripped_none (b ∷ s) h = absurd (omega arith)
+bytes_white : (b : ℕ) (s : List ℕ) → white b ≡ true → bytes_of (b ∷ s) ≡ bytes_of s
+bytes_white b [] w = rw w
+bytes_white b (c ∷ s) w = rw w
 
--- The bytes of a text that begins with white space, and of one that does not.
-pub bytes_white : (s : List ℕ) → 1 ≤ length s → white (get_or s 0 0) ≡ true → bytes_of s ≡ bytes_of (after s)
-bytes_white [] h w = absurd (omega arith)
-bytes_white (a ∷ []) h w = rw w
-bytes_white (a ∷ (b ∷ s)) h w = rw (w, take_rest (a ∷ (b ∷ s)) 1)
+-- White space at the front stands for no bytes.
+pub bytes_stripped : (s : List ℕ) → bytes_of (stripped s) ≡ bytes_of s
+bytes_stripped [] = refl
+bytes_stripped (b ∷ s) =
+    elim (front b s) [ inl p ↦ ap bytes_of p.1 ∙ bytes_stripped s ∙ sym (bytes_white b s p.0) | inr p ↦ ap bytes_of p.1 ]
 
 -- A byte before those that the rest of a text stands for.
 abbrev pub put : ℕ × List ℕ → Result (List ℕ) Mistake
@@ -50,18 +50,23 @@ both (Ok h) (Ok l) false s = refl
 both (Ok h) (Err x) false s = refl
 both (Err x) e w s = refl
 
-pub bytes_pair : (s : List ℕ) → 1 ≤ length s → white (get_or s 0 0) ≡ false → bytes_of s ≡ and_then (pair_of s) put
-bytes_pair [] h w = absurd (omega arith)
-bytes_pair (a ∷ []) h w = rw w (lone (digit_of a))
-bytes_pair (a ∷ (b ∷ s)) h w = rw w (both (digit_of a) (digit_of b) (white b) s)
+bytes_word : (b : ℕ) (s : List ℕ) → white b ≡ false → bytes_of (b ∷ s) ≡ and_then (pair_of (b ∷ s)) put
+bytes_word b [] w = rw w (lone (digit_of b))
+bytes_word b (c ∷ s) w = rw w (both (digit_of b) (digit_of c) (white c) s)
+
+-- The bytes of a text that does not begin with white space.
+bytes_pair : (s : List ℕ) → stripped s ≡ s → 1 ≤ length s → bytes_of s ≡ and_then (pair_of s) put
+bytes_pair [] h l = absurd (omega arith)
+bytes_pair (b ∷ s) h l =
+    elim (front b s) [ inl p ↦ absurd (omega (arith, ap length (sym p.1 ∙ h), length-drop (margin s) s)) | inr p ↦ bytes_word b s p.0 ]
 
 -- One byte more, at the end of those so far.
-pub pushed : (xs : List ℕ) (y : ℕ) (r : Result (List ℕ) Mistake) →
+pushed : (xs : List ℕ) (y : ℕ) (r : Result (List ℕ) Mistake) →
     and_then r (λ more. Ok ((xs ++ (y ∷ [])) ++ more)) ≡ and_then (and_then r (λ bytes. Ok (y ∷ bytes))) (λ more. Ok (xs ++ more))
 pushed xs y (Ok ys) = ap Ok (append_assoc xs (y ∷ []) ys)
 pushed xs y (Err e) = refl
 
--- What is behind a pair is shorter than the text.
+-- What is behind a pair is shorter than the text, white space or not.
 second_rest : (w : Bool) (d : Result ℕ Mistake) (h : ℕ) (s : List ℕ) (p : ℕ × List ℕ) →
     Ok p ≡ cond w (Err LoneDigit) (and_then d (λ l. Ok (h * 16 + l, s))) → p.1 ≡ s
 second_rest true d h s p e = cc
@@ -74,6 +79,37 @@ second_shorter (Err x) s p e = cc
 second_shorter (Ok h) [] p e = cc
 second_shorter (Ok h) (c ∷ s) p e = omega (arith, ap length (second_rest (white c) (digit_of c) h s p e))
 
-pub pair_shorter : (s : List ℕ) (p : ℕ × List ℕ) → Ok p ≡ pair_of s → length p.1 < length s
+pub pair_shorter : (s : List ℕ) (p : ℕ × List ℕ) → Ok p ≡ pair_of s → length (stripped p.1) < length s
 pair_shorter [] p e = cc
-pair_shorter (a ∷ s) p e = omega (arith, second_shorter (digit_of a) s p e)
+pair_shorter (b ∷ s) p e = omega (arith, second_shorter (digit_of b) s p e, length-drop (margin p.1) p.1)
+
+-- The bytes so far, with those of the rest, are the whole; and the rest does not begin with white space.
+pub record SoFar (bytes rest : List ℕ) (whole : Result (List ℕ) Mistake) : Type 0 where
+  pub joined : and_then (bytes_of rest) (λ more. Ok (bytes ++ more)) ≡ whole
+  pub no_margin : stripped rest ≡ rest
+
+joined_none : (r : Result (List ℕ) Mistake) → and_then r (λ more. Ok ([] ++ more)) ≡ r
+joined_none (Ok xs) = refl
+joined_none (Err e) = refl
+
+pub so_far_none : (text : List ℕ) → SoFar [] (stripped text) (bytes_of text)
+so_far_none text = record { joined = joined_none (bytes_of (stripped text)) ∙ bytes_stripped text; no_margin = stripped_twice text }
+
+-- A pair is at the front of the rest, or a mistake.
+so_far_pair : (bytes rest : List ℕ) (whole : Result (List ℕ) Mistake) →
+    SoFar bytes rest whole → 1 ≤ length rest → and_then (and_then (pair_of rest) put) (λ more. Ok (bytes ++ more)) ≡ whole
+so_far_pair bytes rest whole h l = ap (λ r. and_then r (λ more. Ok (bytes ++ more))) (sym (bytes_pair rest h.no_margin l)) ∙ h.joined
+
+pub so_far_more : (bytes rest : List ℕ) (whole : Result (List ℕ) Mistake) (byte : ℕ) (behind : List ℕ) →
+    SoFar bytes rest whole → 1 ≤ length rest → Ok (byte, behind) ≡ pair_of rest → SoFar (bytes ++ (byte ∷ [])) (stripped behind) whole
+so_far_more bytes rest whole byte behind h l e = record {
+  joined =
+      ap (λ r. and_then r (λ more. Ok ((bytes ++ (byte ∷ [])) ++ more))) (bytes_stripped behind) ∙ pushed bytes byte (bytes_of behind)
+      ∙ ap (λ r. and_then (and_then r put) (λ more. Ok (bytes ++ more))) e ∙ so_far_pair bytes rest whole h l;
+  no_margin = stripped_twice behind;
+}
+
+pub so_far_mistaken : (bytes rest : List ℕ) (whole : Result (List ℕ) Mistake) (m : Mistake) →
+    SoFar bytes rest whole → 1 ≤ length rest → Err m ≡ pair_of rest → Err m ≡ whole
+so_far_mistaken bytes rest whole m h l e =
+    ap (λ r. and_then (and_then r put) (λ more. Ok (bytes ++ more))) e ∙ so_far_pair bytes rest whole h l

@@ -1,14 +1,10 @@
 -- The bytes that hexadecimal digits stand for.
 use Rattle.std.specs.Prelude.{◌≡◌, ℕ, ◌+◌, ◌-◌, ◌*◌, Bool, cond, ◌&&◌, ◌⊎◌, List, [], ◌∷◌, Ok, Err, vec_items, Result, Vec, nat_le}
-use Rattle.std.specs.Borrow.{Bor}
 use Rattle.std.specs.declared.alloc.Global.{Global}
 use Rattle.command.specs.declared.mistake.Mistake.{Mistake}
 use Rattle.command.specs.declared.mistake.Mistake.TheVariants.{NoDigit, LoneDigit, Memory}
+use Rattle.command.specs.Steps.{and_then}
 use Rattle.command.specs.Words.{white}
-
-abbrev pub and_then : {A B : Type 0} → Result A Mistake → (A → Result B Mistake) → Result B Mistake
-and_then (Ok x) f = f x
-and_then (Err e) f = Err e
 
 -- Whether b is one of the bytes from a to c.
 abbrev pub from_to : ℕ → ℕ → ℕ → Bool
@@ -36,11 +32,6 @@ bytes_of (a ∷ []) = cond (white a) (Ok []) (and_then (digit_of a) (λ h. Err L
 bytes_of (a ∷ (b ∷ s)) =
     cond (white a) (bytes_of (b ∷ s))
     (and_then (pair_of (a ∷ (b ∷ s))) (λ p. and_then (bytes_of s) (λ bytes. Ok (p.0 ∷ bytes))))
-
--- What the code answers, in the words of the definitions.
-abbrev pub with_rest : Result (ℕ × Bor (List ℕ)) Mistake → Result (ℕ × List ℕ) Mistake
-with_rest (Ok x) = Ok (x.0, x.1.now)
-with_rest (Err e) = Err e
 
 -- The answer is the one that is right, or memory ran out.
 abbrev pub Answers : Result (Vec ℕ Global) Mistake → Result (List ℕ) Mistake → Type 0

@@ -1,10 +1,11 @@
 // Bytes written in hexadecimal digits.
 
 ghost use Rattle.std.specs.Prelude.{◌≡◌};
-ghost use Rattle.command.specs.Digits.{digit_of, pair_of, bytes_of, with_rest, Answers};
+ghost use Rattle.command.specs.Steps.{mapped};
+ghost use Rattle.command.specs.Digits.{digit_of, pair_of, bytes_of, Answers};
 
 use crate::mistake::Mistake;
-use crate::words::is_white;
+use crate::words::{is_white, strip};
 use std::alloc::Global;
 
 /// What a hexadecimal digit stands for, in upper or lower case.
@@ -21,7 +22,7 @@ fn digit(byte: u8) -> Result<u8, Mistake>
 
 /// The byte that the two digits at the front of a text stand for, and what is behind them.
 fn pair(text: &[u8]) -> Result<(u8, &[u8]), Mistake>
-    ensures { with_rest result ≡ pair_of text.now }
+    ensures { mapped (λ p. (p.0, p.1.now)) result ≡ pair_of text.now }
 {
     let [first, rest @ ..] = text else {
         return Err(Mistake::LoneDigit);
@@ -38,15 +39,11 @@ pub fn decode(heap: Global, text: &[u8]) -> Result<Vec<u8>, Mistake>
     ensures { Answers result (bytes_of text.now) }
 {
     let mut bytes = Vec::new(heap);
-    let mut rest = text;
-    while let [first, after @ ..] = rest {
-        if is_white(*first) {
-            rest = after;
-        } else {
-            let (byte, behind) = pair(rest)?;
-            bytes.push(byte)?;
-            rest = behind;
-        }
+    let mut rest = strip(text);
+    while !rest.is_empty() {
+        let (byte, behind) = pair(rest)?;
+        bytes.push(byte)?;
+        rest = strip(behind);
     }
     Ok(bytes)
 }

@@ -1,16 +1,17 @@
 // A line of text, and the command that it gives.
 
 ghost use Rattle.std.specs.Prelude.{◌≡◌};
+ghost use Rattle.std.specs.Option.{option_map};
+ghost use Rattle.command.specs.Steps.{mapped};
 ghost use Rattle.command.specs.Words.{stripped, word, behind};
-ghost use Rattle.command.specs.Lines.{said_of, file_of, seen, answered, name_of};
-ghost use Rattle.command.specs.Lines as Lines;
+ghost use Rattle.command.specs.Lines.{said_of, meant, file_of, alone, seen};
 
 use crate::mistake::Mistake;
 use crate::verb::Verb;
 use crate::words::{split, strip};
 
 /// A command, with what it takes.
-#[derive(Clone, Copy)]
+#[derive(Clone, Copy, Debug, PartialEq, Eq)]
 pub enum Command<'a> {
     /// Sets the manual to the bytes that the digits stand for.
     Manual(&'a [u8]),
@@ -24,41 +25,46 @@ pub enum Command<'a> {
 
 /// The command that a line gives, if it gives any: a blank line and one that begins with `#` give none.
 pub fn parse(line: &[u8]) -> Result<Option<Command<'_>>, Mistake>
-    ensures { answered result ≡ said_of line.now }
+    ensures { mapped (option_map seen) result ≡ said_of line.now }
 {
     let (word, rest) = split(strip(line));
     if let [] | [b'#', ..] = word {
         return Ok(None);
     }
-    match Verb::named(word) {
-        None => Err(Mistake::Unknown),
-        Some(Verb::Manual) => Ok(Some(Command::Manual(rest))),
-        Some(Verb::Load) => Ok(Some(Command::Load(file(rest)?))),
-        Some(Verb::Check) => alone(Command::Check, rest),
-        Some(Verb::Help) => alone(Command::Help, rest),
-    }
+    let verb = Verb::try_from(word)?;
+    Ok(Some(command_of(verb, rest)?))
 }
 
-/// A command that nothing may stand behind.
-fn alone<'a>(command: Command<'a>, rest: &[u8]) -> Result<Option<Command<'a>>, Mistake>
-    ensures { answered result ≡ Lines.alone (seen command.entry) (stripped rest.now) }
+/// A command with what is behind its name.
+fn command_of(verb: Verb, rest: &[u8]) -> Result<Command<'_>, Mistake>
+    ensures { mapped seen result ≡ meant verb rest.now }
 {
-    if strip(rest).is_empty() {
-        Ok(Some(command))
-    } else {
-        Err(Mistake::Superfluous)
+    match verb {
+        Verb::Manual => Ok(Command::Manual(rest)),
+        Verb::Load => Ok(Command::Load(file(rest)?)),
+        Verb::Check => alone(Command::Check, rest),
+        Verb::Help => alone(Command::Help, rest),
     }
 }
 
 /// The one word behind a command: a file's name.
 fn file(rest: &[u8]) -> Result<&[u8], Mistake>
-    ensures { name_of result ≡ file_of (word (stripped rest.now)) (stripped (behind (stripped rest.now))) }
+    ensures { mapped (λ s. s.now) result ≡ file_of (word (stripped rest.now)) (stripped (behind (stripped rest.now))) }
 {
     let (name, rest) = split(strip(rest));
     if name.is_empty() {
         Err(Mistake::NoFile)
-    } else if strip(rest).is_empty() {
-        Ok(name)
+    } else {
+        alone(name, rest)
+    }
+}
+
+/// What nothing may stand behind.
+fn alone<T: Copy>(value: T, rest: &[u8]) -> Result<T, Mistake>
+    ensures { result ≡ alone value (stripped rest.now) }
+{
+    if strip(rest).is_empty() {
+        Ok(value)
     } else {
         Err(Mistake::Superfluous)
     }

@@ -5,6 +5,7 @@ ghost use Rattle.command.specs.declared.mistake.Mistake.TheVariants.{Memory};
 ghost use Rattle.command.specs.Told.{told};
 
 use std::alloc::{AllocError, AllocFailed};
+use std::error::Error;
 use std::fmt;
 
 /// Why a line is no command.
@@ -23,6 +24,8 @@ pub enum Mistake {
     /// There is no memory for what the line says.
     Memory,
 }
+
+impl Error for Mistake {}
 
 impl From<AllocError> for Mistake {
     ghost from_gives = { λ _ r. r ≡ Memory };

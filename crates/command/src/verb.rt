@@ -3,10 +3,10 @@
 ghost use Rattle.std.specs.Prelude.{◌≡◌};
 ghost use Rattle.command.specs.Verbs.{verb_of};
 
-use crate::words::same;
+use crate::mistake::Mistake;
 
 /// What a command does, by its name.
-#[derive(Clone, Copy)]
+#[derive(Clone, Copy, Debug, PartialEq, Eq)]
 pub enum Verb {
     Manual,
     Load,
@@ -14,21 +14,19 @@ pub enum Verb {
     Help,
 }
 
-impl Verb {
-    /// The command that a word names.
-    pub fn named(word: &[u8]) -> Option<Verb>
-        ensures { result ≡ verb_of word.now }
-    {
-        if same(word, b"manual") {
-            Some(Verb::Manual)
-        } else if same(word, b"load") {
-            Some(Verb::Load)
-        } else if same(word, b"check") {
-            Some(Verb::Check)
-        } else if same(word, b"help") {
-            Some(Verb::Help)
-        } else {
-            None
+/// The command that a word names.
+impl TryFrom<&[u8]> for Verb {
+    type Error = Mistake;
+
+    ghost try_from_gives = { λ word r. r ≡ verb_of word.now };
+
+    fn try_from(word: &[u8]) -> Result<Verb, Mistake> {
+        match word {
+            b"manual" => Ok(Verb::Manual),
+            b"load" => Ok(Verb::Load),
+            b"check" => Ok(Verb::Check),
+            b"help" => Ok(Verb::Help),
+            _ => Err(Mistake::Unknown),
         }
     }
 }

@@ -1,10 +1,10 @@
-use Rattle.std.proofs.Common.{◌≡◌, ◌++◌, length, Ok, vec_items}
-use Rattle.command.specs.Digits.{and_then, bytes_of}
+use Rattle.std.proofs.Common.{length, vec_items}
+use Rattle.command.specs.Digits.{bytes_of}
+use Rattle.command.proofs.Texts.{SoFar}
 use Rattle.command.proofs.hex.decode.Given as goal
 
--- The bytes so far, and those of the rest, are those of the whole.
 abbrev pub invariant-loop-rest : goal.invariant-loop-rest
-invariant-loop-rest l = and_then (bytes_of l.rest) (λ more. Ok (vec_items l.bytes ++ more)) ≡ bytes_of l.initial.rest
+invariant-loop-rest l = SoFar (vec_items l.bytes) l.rest (bytes_of l.fn.text)
 
 abbrev pub decreases-loop-rest : goal.decreases-loop-rest
 decreases-loop-rest l = length l.rest
