@@ -3,15 +3,11 @@ use Rattle.std.specs.Prelude.{ℕ, List, ◌++◌, codes, decimal}
 use Rattle.terms.specs.Refusals.{number}
 use Rattle.command.specs.Told.{told}
 use Rattle.reader.specs.declared.answer.Answer.{Answer}
-use Rattle.reader.specs.declared.answer.Answer.TheVariants.{Manual, Accepted, Refused, Help, Mistaken, Unread}
-use Rattle.reader.specs.declared.answer.Reason.{Reason}
-use Rattle.reader.specs.declared.answer.Reason.TheVariants.{NotThere, Folder, Other}
-
--- Why a file could not be read.
-abbrev pub why : Reason → List ℕ
-why NotThere = codes "there is no such file"
-why Folder = codes "a folder is no file to load"
-why Other = codes "the file cannot be read"
+use Rattle.reader.specs.declared.answer.Answer.TheVariants.{Manual, Accepted, Help}
+use Rattle.reader.specs.declared.failure.Failure.{Failure}
+use Rattle.reader.specs.declared.failure.Failure.TheVariants.{Refused, Mistaken, Unread}
+use Rattle.reader.specs.declared.failure.Reason.{Reason}
+use Rattle.reader.specs.declared.failure.Reason.TheVariants.{NotThere, Folder, Other}
 
 -- The line that an answer is printed as.
 abbrev pub printed : Answer → List ℕ
@@ -19,8 +15,17 @@ printed (Manual n) = codes "manual " ++ (decimal n ++ codes " bytes")
 printed (Accepted c) =
     codes "accepted, " ++ (decimal c.registers ++ (codes " registers, " ++ (decimal c.rules ++ (codes " rules, "
     ++ (decimal c.entries ++ codes " entries")))))
-printed (Refused f) = codes "refused " ++ (decimal (number f.refusal) ++ (codes " at " ++ decimal f.place))
 printed Help =
     codes "commands: manual HEX (white space may stand between pairs of digits) | load FILE | check | help"
-printed (Mistaken m) = codes "error: " ++ told m
-printed (Unread r) = codes "error: " ++ why r
+
+-- Why a file could not be read.
+abbrev pub why : Reason → List ℕ
+why NotThere = codes "there is no such file"
+why Folder = codes "a folder is no file to load"
+why Other = codes "the file cannot be read"
+
+-- The line that is printed in place of an answer.
+abbrev pub failed : Failure → List ℕ
+failed (Refused f) = codes "refused " ++ (decimal (number f.refusal) ++ (codes " at " ++ decimal f.place))
+failed (Mistaken m) = codes "error: " ++ told m
+failed (Unread r) = codes "error: " ++ why r

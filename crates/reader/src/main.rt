@@ -3,29 +3,26 @@
 #![tactic(auto)]
 
 mod answer;
+mod failure;
 mod session;
 
-use answer::{Answer, Reason};
+use answer::Answer;
+use failure::Failure;
 use session::Session;
 use std::io::{BufRead, BufReader};
 use std::{env, io};
 
 fn main(rt: HostRuntime) -> io::Result<()> {
     let mut session = Session::new(rt.alloc());
-    if let Some(answer) = load_argument(&rt, &mut session) {
-        println!(rt; "{answer}")?;
-    }
+    print_answer(&rt, load_argument(&rt, &mut session))?;
     answer_lines(&rt, &mut session)
 }
 
 /// Loads the manual that the first argument names, if there is one.
-fn load_argument(rt: &HostRuntime, session: &mut Session) -> Option<Answer> {
-    match env::args(rt) {
-        Ok(mut arguments) => {
-            let file = arguments.nth(1)?;
-            Some(session.load(rt, file.as_str()))
-        }
-        Err(error) => Some(Answer::Unread(Reason::of(error.kind()))),
+fn load_argument(rt: &HostRuntime, session: &mut Session) -> Result<Option<Answer>, Failure> {
+    match env::args(rt)?.nth(1) {
+        None => Ok(None),
+        Some(file) => session.load(rt, file.as_str()).map(Some),
     }
 }
 
@@ -38,9 +35,16 @@ fn answer_lines(rt: &HostRuntime, session: &mut Session) -> io::Result<()> {
         if input.read_until(b'\n', &mut line)? == 0 {
             break;
         }
-        if let Some(answer) = session.answer(rt, line.as_slice()) {
-            println!(rt; "{answer}")?;
-        }
+        print_answer(rt, session.answer(rt, line.as_slice()))?;
     }
     Ok(())
+}
+
+/// Prints an answer, if there is one, or why there is none.
+fn print_answer(rt: &HostRuntime, answer: Result<Option<Answer>, Failure>) -> io::Result<()> {
+    match answer {
+        Ok(None) => Ok(()),
+        Ok(Some(answer)) => println!(rt; "{answer}"),
+        Err(failure) => println!(rt; "{failure}"),
+    }
 }

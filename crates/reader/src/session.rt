@@ -7,24 +7,35 @@ ghost use Rattle.command.specs.Lines.{said_of, seen};
 ghost use Rattle.command.specs.Lines as Lines;
 ghost use Rattle.reader.specs.Sessions.{checked, Loaded, Obeyed, Answered};
 
-use crate::answer::{Answer, Reason};
+use crate::answer::Answer;
+use crate::failure::{Failure, Reason};
 use checker::check;
 use command::hex::decode;
 use command::line::{Command, parse};
 use std::alloc::Global;
 use std::fs;
+use std::marker::Model;
+use std::str::from_utf8;
 
+/// A manual, seen as the list of the bytes of its program.
 #[derive(Drop)]
 pub struct Session {
     heap: Global,
-    /// The bytes of the manual's program.
     manual: Vec<u8>,
+}
+
+impl Model for Session {
+    ghost use Rattle.std.specs.Prelude.{List, ℕ};
+
+    ghost Value = { List ℕ };
+
+    ghost view = { λ s. s.manual.items };
 }
 
 impl Session {
     /// A session whose manual has no bytes.
     pub fn new(heap: Global) -> Session
-        ensures { result.manual.items ≡ [] }
+        ensures { result ≡ [] }
     {
         Session {
             heap,
@@ -32,64 +43,56 @@ impl Session {
         }
     }
 
-    fn check(&self) -> Answer
-        ensures { result ≡ checked (verdict self.now.manual.items) }
-    {
-        match check(self.manual.as_slice()) {
-            Ok(counts) => Answer::Accepted(counts),
-            Err(fault) => Answer::Refused(fault),
-        }
-    }
-
     /// Does what a line says, and answers it, unless the line says nothing.
-    pub fn answer(&mut self, rt: &HostRuntime, line: &[u8]) -> Option<Answer>
-        ensures { Answered (said_of line.now) self.old.manual.items result self.new.manual.items }
+    pub fn answer(&mut self, rt: &HostRuntime, line: &[u8]) -> Result<Option<Answer>, Failure>
+        ensures { Answered (said_of line.now) self.old result self.new }
     {
-        match parse(line) {
-            Ok(None) => None,
-            Ok(Some(command)) => Some(self.obey(rt, command)),
-            Err(mistake) => Some(Answer::Mistaken(mistake)),
+        match parse(line)? {
+            None => Ok(None),
+            Some(command) => self.obey(rt, command).map(Some),
         }
     }
 
-    fn obey(&mut self, rt: &HostRuntime, command: Command) -> Answer
-        ensures { Obeyed (seen command.entry) self.old.manual.items result self.new.manual.items }
+    fn obey(&mut self, rt: &HostRuntime, command: Command) -> Result<Answer, Failure>
+        ensures { Obeyed (seen command.entry) self.old result self.new }
     {
         match command {
             Command::Manual(digits) => self.manual(digits),
-            Command::Load(name) => match std::str::from_utf8(name) {
-                Ok(file) => self.load(rt, file),
-                Err(_) => Answer::Unread(Reason::Other),
-            },
+            Command::Load(name) => {
+                let file = from_utf8(name).map_err(|_| Failure::Unread(Reason::Other))?;
+                self.load(rt, file)
+            }
             Command::Check => self.check(),
-            Command::Help => Answer::Help,
+            Command::Help => Ok(Answer::Help),
         }
     }
 
-    fn manual(&mut self, digits: &[u8]) -> Answer
-        ensures { Obeyed (Lines.manual digits.now) self.old.manual.items result self.new.manual.items }
+    fn manual(&mut self, digits: &[u8]) -> Result<Answer, Failure>
+        ensures { Obeyed (Lines.manual digits.now) self.old result self.new }
     {
-        match decode(self.heap, digits) {
-            Ok(bytes) => self.set(bytes),
-            Err(mistake) => Answer::Mistaken(mistake),
-        }
+        let bytes = decode(self.heap, digits)?;
+        Ok(self.set(bytes))
     }
 
     /// Sets the manual to what a file holds.
-    pub fn load(&mut self, rt: &HostRuntime, file: &str) -> Answer
-        ensures { Loaded self.old.manual.items result self.new.manual.items }
+    pub fn load(&mut self, rt: &HostRuntime, file: &str) -> Result<Answer, Failure>
+        ensures { Loaded self.old result self.new }
     {
-        match fs::read(rt, file) {
-            Ok(bytes) => self.set(bytes),
-            Err(error) => Answer::Unread(Reason::of(error.kind())),
-        }
+        let bytes = fs::read(rt, file)?;
+        Ok(self.set(bytes))
     }
 
     fn set(&mut self, bytes: Vec<u8>) -> Answer
         ensures is { result ≡ Answer.Manual (length bytes.items) }
-        ensures after { self.new.manual.items ≡ bytes.items }
+        ensures after { self.new ≡ bytes.items }
     {
         self.manual = bytes;
         Answer::Manual(self.manual.len())
+    }
+
+    fn check(&self) -> Result<Answer, Failure>
+        ensures { result ≡ checked (verdict self.now) }
+    {
+        Ok(Answer::Accepted(check(self.manual.as_slice())?))
     }
 }
