@@ -1,9 +1,9 @@
 -- What is at the front of a text, and what the definitions make of it.
-use Rattle.std.proofs.Common.{◌≡◌, ℕ, ◌+◌, ◌*◌, ◌<◌, ◌≤◌, ◌⊎◌, inl, inr, Bool, true, false, cond, List, [], ◌∷◌, ◌++◌, length, Ok, Err, Result, refl, sym, ap, ◌∙◌, append_assoc, arith, length-drop}
+use Rattle.std.proofs.Common.{◌≡◌, ℕ, ◌+◌, ◌*◌, ◌≤◌, ◌⊎◌, inl, inr, Bool, true, false, cond, List, [], ◌∷◌, ◌++◌, length, Ok, Err, Result, refl, sym, ap, ◌∙◌, append_assoc, arith, length-drop}
 use Rattle.std.proofs.lemmas.List.Sums.{take_while-cons}
 use Rattle.command.specs.declared.mistake.Mistake.{Mistake}
 use Rattle.command.specs.declared.mistake.Mistake.TheVariants.{LoneDigit}
-use Rattle.command.specs.Steps.{and_then}
+use Rattle.command.specs.Steps.{mapped, and_then}
 use Rattle.command.specs.Words.{white, margin, stripped}
 use Rattle.command.specs.Digits.{digit_of, second_of, pair_of, bytes_of}
 
@@ -35,15 +35,15 @@ bytes_stripped (b ∷ s) =
 
 -- A byte before those that the rest of a text stands for.
 abbrev pub put : ℕ × List ℕ → Result (List ℕ) Mistake
-put p = and_then (bytes_of p.1) (λ bytes. Ok (p.0 ∷ bytes))
+put p = mapped (λ bytes. p.0 ∷ bytes) (bytes_of p.1)
 
 lone : (d : Result ℕ Mistake) → and_then d (λ h. Err LoneDigit) ≡ and_then (and_then d (λ h. second_of h [])) put
 lone (Ok h) = refl
 lone (Err e) = refl
 
 both : (d e : Result ℕ Mistake) (w : Bool) (s : List ℕ) →
-    and_then {A = ℕ × List ℕ} (and_then d (λ h. cond w (Err LoneDigit) (and_then e (λ l. Ok (h * 16 + l, s))))) (λ p. and_then (bytes_of s) (λ bytes. Ok (p.0 ∷ bytes)))
-    ≡ and_then {A = ℕ × List ℕ} (and_then d (λ h. cond w (Err LoneDigit) (and_then e (λ l. Ok (h * 16 + l, s))))) put
+    let pairs : Result (ℕ × List ℕ) Mistake = and_then d (λ h. cond w (Err LoneDigit) (mapped (λ l. (h * 16 + l, s)) e)) in
+    and_then pairs (λ p. mapped (λ bytes. p.0 ∷ bytes) (bytes_of s)) ≡ and_then pairs put
 both (Ok h) (Ok l) true s = refl
 both (Ok h) (Err x) true s = refl
 both (Ok h) (Ok l) false s = refl
@@ -62,33 +62,16 @@ bytes_pair (b ∷ s) h l =
 
 -- One byte more, at the end of those so far.
 pushed : (xs : List ℕ) (y : ℕ) (r : Result (List ℕ) Mistake) →
-    and_then r (λ more. Ok ((xs ++ (y ∷ [])) ++ more)) ≡ and_then (and_then r (λ bytes. Ok (y ∷ bytes))) (λ more. Ok (xs ++ more))
+    mapped (λ more. (xs ++ (y ∷ [])) ++ more) r ≡ mapped (λ more. xs ++ more) (mapped (λ bytes. y ∷ bytes) r)
 pushed xs y (Ok ys) = ap Ok (append_assoc xs (y ∷ []) ys)
 pushed xs y (Err e) = refl
 
--- What is behind a pair is shorter than the text, white space or not.
-second_rest : (w : Bool) (d : Result ℕ Mistake) (h : ℕ) (s : List ℕ) (p : ℕ × List ℕ) →
-    Ok p ≡ cond w (Err LoneDigit) (and_then d (λ l. Ok (h * 16 + l, s))) → p.1 ≡ s
-second_rest true d h s p e = cc
-second_rest false (Ok l) h s p e = cc
-second_rest false (Err x) h s p e = cc
-
-second_shorter : (d : Result ℕ Mistake) (s : List ℕ) (p : ℕ × List ℕ) →
-    Ok p ≡ and_then d (λ h. second_of h s) → length p.1 ≤ length s
-second_shorter (Err x) s p e = cc
-second_shorter (Ok h) [] p e = cc
-second_shorter (Ok h) (c ∷ s) p e = omega (arith, ap length (second_rest (white c) (digit_of c) h s p e))
-
-pub pair_shorter : (s : List ℕ) (p : ℕ × List ℕ) → Ok p ≡ pair_of s → length (stripped p.1) < length s
-pair_shorter [] p e = cc
-pair_shorter (b ∷ s) p e = omega (arith, second_shorter (digit_of b) s p e, length-drop (margin p.1) p.1)
-
 -- The bytes so far, with those of the rest, are the whole; and the rest does not begin with white space.
 pub record SoFar (bytes rest : List ℕ) (whole : Result (List ℕ) Mistake) : Type 0 where
-  pub joined : and_then (bytes_of rest) (λ more. Ok (bytes ++ more)) ≡ whole
+  pub joined : mapped (λ more. bytes ++ more) (bytes_of rest) ≡ whole
   pub no_margin : stripped rest ≡ rest
 
-joined_none : (r : Result (List ℕ) Mistake) → and_then r (λ more. Ok ([] ++ more)) ≡ r
+joined_none : (r : Result (List ℕ) Mistake) → mapped (λ more. [] ++ more) r ≡ r
 joined_none (Ok xs) = refl
 joined_none (Err e) = refl
 
@@ -97,19 +80,19 @@ so_far_none text = record { joined = joined_none (bytes_of (stripped text)) ∙ 
 
 -- A pair is at the front of the rest, or a mistake.
 so_far_pair : (bytes rest : List ℕ) (whole : Result (List ℕ) Mistake) →
-    SoFar bytes rest whole → 1 ≤ length rest → and_then (and_then (pair_of rest) put) (λ more. Ok (bytes ++ more)) ≡ whole
-so_far_pair bytes rest whole h l = ap (λ r. and_then r (λ more. Ok (bytes ++ more))) (sym (bytes_pair rest h.no_margin l)) ∙ h.joined
+    SoFar bytes rest whole → 1 ≤ length rest → mapped (λ more. bytes ++ more) (and_then (pair_of rest) put) ≡ whole
+so_far_pair bytes rest whole h l = ap (mapped (λ more. bytes ++ more)) (sym (bytes_pair rest h.no_margin l)) ∙ h.joined
 
 pub so_far_more : (bytes rest : List ℕ) (whole : Result (List ℕ) Mistake) (byte : ℕ) (behind : List ℕ) →
     SoFar bytes rest whole → 1 ≤ length rest → Ok (byte, behind) ≡ pair_of rest → SoFar (bytes ++ (byte ∷ [])) (stripped behind) whole
 so_far_more bytes rest whole byte behind h l e = record {
   joined =
-      ap (λ r. and_then r (λ more. Ok ((bytes ++ (byte ∷ [])) ++ more))) (bytes_stripped behind) ∙ pushed bytes byte (bytes_of behind)
-      ∙ ap (λ r. and_then (and_then r put) (λ more. Ok (bytes ++ more))) e ∙ so_far_pair bytes rest whole h l;
+      ap (mapped (λ more. (bytes ++ (byte ∷ [])) ++ more)) (bytes_stripped behind) ∙ pushed bytes byte (bytes_of behind)
+      ∙ ap (λ r. mapped (λ more. bytes ++ more) (and_then r put)) e ∙ so_far_pair bytes rest whole h l;
   no_margin = stripped_twice behind;
 }
 
 pub so_far_mistaken : (bytes rest : List ℕ) (whole : Result (List ℕ) Mistake) (m : Mistake) →
     SoFar bytes rest whole → 1 ≤ length rest → Err m ≡ pair_of rest → Err m ≡ whole
 so_far_mistaken bytes rest whole m h l e =
-    ap (λ r. and_then (and_then r put) (λ more. Ok (bytes ++ more))) e ∙ so_far_pair bytes rest whole h l
+    ap (λ r. mapped (λ more. bytes ++ more) (and_then r put)) e ∙ so_far_pair bytes rest whole h l

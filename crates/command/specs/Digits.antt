@@ -3,7 +3,7 @@ use Rattle.std.specs.Prelude.{◌≡◌, ℕ, ◌+◌, ◌-◌, ◌*◌, Bool, c
 use Rattle.std.specs.declared.alloc.Global.{Global}
 use Rattle.command.specs.declared.mistake.Mistake.{Mistake}
 use Rattle.command.specs.declared.mistake.Mistake.TheVariants.{NoDigit, LoneDigit, Memory}
-use Rattle.command.specs.Steps.{and_then}
+use Rattle.command.specs.Steps.{mapped, and_then}
 use Rattle.command.specs.Words.{white}
 
 -- Whether b is one of the bytes from a to c.
@@ -19,7 +19,7 @@ digit_of b =
 -- The byte that the two digits at the front of a text stand for, and what is behind them.
 abbrev pub second_of : ℕ → List ℕ → Result (ℕ × List ℕ) Mistake
 second_of h [] = Err LoneDigit
-second_of h (b ∷ s) = cond (white b) (Err LoneDigit) (and_then (digit_of b) (λ l. Ok (h * 16 + l, s)))
+second_of h (b ∷ s) = cond (white b) (Err LoneDigit) (mapped (λ l. (h * 16 + l, s)) (digit_of b))
 
 abbrev pub pair_of : List ℕ → Result (ℕ × List ℕ) Mistake
 pair_of [] = Err LoneDigit
@@ -31,7 +31,7 @@ bytes_of [] = Ok []
 bytes_of (a ∷ []) = cond (white a) (Ok []) (and_then (digit_of a) (λ h. Err LoneDigit))
 bytes_of (a ∷ (b ∷ s)) =
     cond (white a) (bytes_of (b ∷ s))
-    (and_then (pair_of (a ∷ (b ∷ s))) (λ p. and_then (bytes_of s) (λ bytes. Ok (p.0 ∷ bytes))))
+    (and_then (pair_of (a ∷ (b ∷ s))) (λ p. mapped (λ bytes. p.0 ∷ bytes) (bytes_of s)))
 
 -- The answer is the one that is right, or memory ran out.
 abbrev pub Answers : Result (Vec ℕ Global) Mistake → Result (List ℕ) Mistake → Type 0

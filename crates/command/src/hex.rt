@@ -1,6 +1,6 @@
 // Bytes written in hexadecimal digits.
 
-ghost use Rattle.std.specs.Prelude.{◌≡◌};
+ghost use Rattle.std.specs.Prelude.{◌≡◌, ◌<◌, length, IfOk};
 ghost use Rattle.command.specs.Steps.{mapped};
 ghost use Rattle.command.specs.Digits.{digit_of, pair_of, bytes_of, Answers};
 
@@ -22,7 +22,8 @@ fn digit(byte: u8) -> Result<u8, Mistake>
 
 /// The byte that the two digits at the front of a text stand for, and what is behind them.
 fn pair(text: &[u8]) -> Result<(u8, &[u8]), Mistake>
-    ensures { mapped (λ p. (p.0, p.1.now)) result ≡ pair_of text.now }
+    ensures value { mapped (λ p. (p.0, p.1.now)) result ≡ pair_of text.now }
+    ensures shorter { IfOk result (λ p. length p.1.now < length text.now) }
 {
     let [first, rest @ ..] = text else {
         return Err(Mistake::LoneDigit);
