@@ -28,14 +28,9 @@ fn load_argument(rt: &HostRuntime, session: &mut Session) -> Result<Option<Answe
 
 /// Answers each line of standard input.
 fn answer_lines(rt: &HostRuntime, session: &mut Session) -> io::Result<()> {
-    let mut input = BufReader::new(rt.alloc(), rt.stdin())?;
-    let mut line = Vec::new(rt.alloc());
-    for _ in 0..u64::MAX {
-        line.clear();
-        if input.read_until(b'\n', &mut line)? == 0 {
-            break;
-        }
-        print_answer(rt, session.answer(rt, line.as_slice()))?;
+    let input = BufReader::new(rt.alloc(), rt.stdin())?;
+    for line in input.split(rt.alloc(), b'\n') {
+        print_answer(rt, session.answer(rt, line?.as_slice()))?;
     }
     Ok(())
 }
