@@ -24,8 +24,8 @@ why NotThere = codes "there is no such file"
 why Folder = codes "a folder is no file to load"
 why Other = codes "the file cannot be read"
 
--- The line that is printed in place of an answer.
-abbrev pub failed : Failure → List ℕ
-failed (Refused f) = codes "refused " ++ (decimal (number f.refusal) ++ (codes " at " ++ decimal f.place))
-failed (Mistaken m) = codes "error: " ++ told m
-failed (Unread r) = codes "error: " ++ why r
+-- The line that a failure is printed as, in place of an answer.
+abbrev pub printed_failure : Failure → List ℕ
+printed_failure (Refused f) = codes "refused " ++ (decimal (number f.refusal) ++ (codes " at " ++ decimal f.place))
+printed_failure (Mistaken m) = codes "error: " ++ told m
+printed_failure (Unread r) = codes "error: " ++ why r

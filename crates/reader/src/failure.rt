@@ -4,7 +4,7 @@ ghost use Rattle.std.specs.Prelude.{◌≡◌, Some};
 ghost use Rattle.std.specs.IoError.{error_kind};
 ghost use Rattle.reader.specs.declared.failure.Failure.TheVariants.{Refused, Mistaken, Unread};
 ghost use Rattle.reader.specs.Reasons.{reason_of};
-ghost use Rattle.reader.specs.Printed.{failed, why};
+ghost use Rattle.reader.specs.Printed.{printed_failure, why};
 
 use command::mistake::Mistake;
 use std::error::Error;
@@ -69,7 +69,7 @@ impl From<io::ErrorKind> for Reason {
 }
 
 impl fmt::Display for Failure {
-    ghost output = { λ x. Some (failed x) };
+    ghost output = { λ x. Some (printed_failure x) };
 
     fn fmt<W: fmt::Write>(&self, f: &mut fmt::Formatter<W>) -> fmt::Result {
         match self {
