@@ -1,15 +1,15 @@
 -- Working out the bytes of a tree gives what the tree gives.
-use Rattle.std.proofs.Common.{◌≡◌, ℕ, zero, suc, ◌-◌, ◌≤◌, List, [], ◌∷◌, ◌++◌, length, Some, refl, ap, arith, lt-ltb}
+use Rattle.std.proofs.Common.{◌≡◌, ℕ, zero, suc, ◌-◌, ◌≤◌, List, [], ◌∷◌, ◌++◌, length, Some, Option, refl, ap, ◌∙◌, arith, lt-ltb}
 use lib.Dec.{eqb-suc-zero}
 use Rattle.terms.specs.declared.kind.Kind.{Kind}
 use Rattle.terms.specs.declared.kind.Kind.TheVariants.{Truth, Word}
 use Rattle.program.specs.Tree.{Expr, Fetch, Constant, Variable, Operate, Choose, Guard, Let, Action, Assign, If, Parallel, Sequence, When, LetIn, Local}
 use Rattle.program.specs.Encoding.{expr_bytes, action_bytes}
-use Rattle.program.specs.Typing.{WellTyped, GoodRule, deep, depth, lets, lets_in}
+use Rattle.program.specs.Typing.{WellTyped, deep, depth, lets, lets_in}
 use Rattle.checker.proofs.Accepts.{four_again}
 use Rattle.outcome.specs.Writes.{Writes, no_writes, over}
-use Rattle.outcome.specs.Outcome.{Given, ready, not_ready, and_ready, Bindings, value, writes, outcome}
-use Rattle.outcome.specs.Working.{value_worked, writes_worked, so_far_behind, sequence_gives, body_worked}
+use Rattle.outcome.specs.Outcome.{Given, ready, not_ready, and_ready, Bindings, value, writes}
+use Rattle.outcome.specs.Working.{value_worked, writes_worked, so_far_behind, sequence_gives, body_worked, GivesOutcome}
 
 module _ (store : List ℕ) where
   pub value_again : (so_far : Writes) (e : Expr) (d l : ℕ) (bound : Bindings) (s : List ℕ) → deep e ≤ d → lets e ≤ l →
@@ -91,8 +91,7 @@ module _ (store : List ℕ) where
   writes_again kinds few (Local a) (suc d) l so_far bound scope s ty p q =
       rw (writes_again kinds few a d l so_far bound scope s ty (omega arith) q)
 
--- The body of a well-formed rule gives its outcome.
-pub body_again : (store body : List ℕ) (kinds : List Kind) (a : Action) → length kinds ≤ 64 → GoodRule kinds a → body ≡ action_bytes a [] →
-    body_worked store body ≡ Some (outcome store a)
-body_again store body kinds a few good is =
-    rw (is, writes_again store kinds few a 24 8 no_writes [] [] [] good.well_typed good.depth_within good.lets_within)
+-- What a body gives is the outcome, where the body is that of a well-formed rule.
+pub gives_outcome : (store body : List ℕ) (r : Option (Given Writes)) → r ≡ body_worked store body → GivesOutcome store body r
+gives_outcome store body r e kinds a few good is =
+    e ∙ rw (is, writes_again store kinds few a 24 8 no_writes [] [] [] good.well_typed good.depth_within good.lets_within)

@@ -3,28 +3,22 @@ use Rattle.std.proofs.Common.{◌≡◌, ℕ, zero, suc, ◌<◌, Bool, true, fa
 use borrow.Author.Tests.{eqb-false}
 use Rattle.outcome.specs.Writes.{Writes, is_write, both, shared_below}
 
-some_none : (v : ℕ) → ◌≡◌ {A = Option ℕ} (Some v) None → ⊥
-some_none v h = let z : ◌≡◌ {A = ℕ} 0 1 = cc in omega arith
-
-true_false : true ≡ false → ⊥
-true_false h = let z : ◌≡◌ {A = ℕ} 0 1 = cc in omega arith
-
 -- Two options are not both there, or are.
-one_is_none : (x y : Option ℕ) → both (is_write x) (is_write y) ≡ false → (x ≡ None) ⊎ (y ≡ None)
+pub one_is_none : (x y : Option ℕ) → both (is_write x) (is_write y) ≡ false → (x ≡ None) ⊎ (y ≡ None)
 one_is_none None y h = inl refl
 one_is_none (Some v) None h = inr refl
-one_is_none (Some v) (Some u) h = absurd (true_false h)
+one_is_none (Some v) (Some u) h = cc
 
-neither_is_none : (x y : Option ℕ) → both (is_write x) (is_write y) ≡ true → (x ≡ None → ⊥) × (y ≡ None → ⊥)
-neither_is_none None y h = absurd (true_false (sym h))
-neither_is_none (Some v) None h = absurd (true_false (sym h))
-neither_is_none (Some v) (Some u) h = (some_none v, some_none u)
+pub neither_is_none : (x y : Option ℕ) → both (is_write x) (is_write y) ≡ true → (x ≡ None → ⊥) × (y ≡ None → ⊥)
+neither_is_none None y h = cc
+neither_is_none (Some v) None h = cc
+neither_is_none (Some v) (Some u) h = (λ e. cc, λ e. cc)
 
 not_both : (x y : Option ℕ) → (x ≡ None) ⊎ (y ≡ None) → both (is_write x) (is_write y) ≡ false
 not_both None y h = refl
 not_both (Some v) None h = refl
-not_both (Some v) (Some u) (inl h) = absurd (some_none v h)
-not_both (Some v) (Some u) (inr h) = absurd (some_none u h)
+not_both (Some v) (Some u) (inl h) = cc
+not_both (Some v) (Some u) (inr h) = cc
 
 both_there : (x y : Option ℕ) → (x ≡ None → ⊥) → (y ≡ None → ⊥) → both (is_write x) (is_write y) ≡ true
 both_there None y h k = absurd (h refl)
@@ -47,12 +41,12 @@ apart_below (suc n) p q h r less = go (both (is_write (p n)) (is_write (q n))) r
     go : (t : Bool) → both (is_write (p n)) (is_write (q n)) ≡ t →
         (shared_below n p q ≡ false → (r : ℕ) → r < n → (p r ≡ None) ⊎ (q r ≡ None)) → cond t true (shared_below n p q) ≡ false →
         (r : ℕ) → r < suc n → (p r ≡ None) ⊎ (q r ≡ None)
-    go true e inner h = absurd (true_false h)
+    go true e inner h = cc
     go false e inner h = at_or_below {P = λ r. (p r ≡ None) ⊎ (q r ≡ None)} n (one_is_none (p n) (q n) e) (inner h)
 
 pub written_twice : (n : ℕ) (p q : Writes) → shared_below n p q ≡ true → (r : ℕ) × (r < n) × (p r ≡ None → ⊥) × (q r ≡ None → ⊥)
 unfolding shared_below
-written_twice zero p q h = absurd (true_false (sym h))
+written_twice zero p q h = cc
 written_twice (suc n) p q h = go (both (is_write (p n)) (is_write (q n))) refl (written_twice n p q) h
   where
     go : (t : Bool) → both (is_write (p n)) (is_write (q n)) ≡ t →

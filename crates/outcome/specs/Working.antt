@@ -17,7 +17,7 @@ use Rattle.outcome.specs.Outcome.{Given, ready, not_ready, and_ready, where_true
 abbrev pub operator_gives : ℕ → Given ℕ → Given ℕ → Given ℕ
 operator_gives o x y = and_ready x (λ l. and_ready y (λ r. ready (operated o l r)))
 
-abbrev pub choice_gives : Given ℕ → Given ℕ → Given ℕ → Given ℕ
+abbrev pub choice_gives : {A : Type 0} → Given ℕ → Given A → Given A → Given A
 choice_gives t x y = and_ready t (λ n. where_true n x y)
 
 abbrev pub guard_gives : Given ℕ → Given ℕ → Given ℕ

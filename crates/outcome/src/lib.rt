@@ -3,9 +3,11 @@
 
 ghost use Rattle.outcome.specs.Laws.{RulesAgree, WorkedCases, NoDoubleWrite, BranchesAlone, FailureKeepsNothing, BranchesExchange};
 
-pub mod done;
+mod actions;
+mod bindings;
+pub mod given;
+mod input;
 pub mod operator;
-mod value;
 pub mod worker;
 pub mod writes;
 

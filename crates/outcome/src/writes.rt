@@ -1,10 +1,33 @@
 // Writes to registers, at most one for each.
 
-ghost use Rattle.std.specs.Prelude.{◌≡◌, ◌<◌};
+ghost use Rattle.std.specs.Prelude.{◌≡◌, ◌≤◌, ◌<◌, MatchOption};
 ghost use Rattle.outcome.specs.Writes.{no_writes, one_write, over, shared, mask, after};
 ghost use Rattle.outcome.specs.Kept.{meaning};
 
-pub(crate) const MAX_REGISTERS: usize = 64;
+use std::array;
+
+const MAX_REGISTERS: usize = 64;
+
+/// The number of a register that can be written.
+#[derive(Clone, Copy)]
+pub(crate) struct Register {
+    number: usize,
+    ghost within: { number < 64 },
+}
+
+impl Register {
+    /// The register of a number, where there may be one.
+    pub(crate) fn new(number: u8) -> Option<Register>
+        ensures { MatchOption result (64 ≤ number) (λ r. (number < 64) × (r.number ≡ number)) }
+    {
+        let number = usize::from(number);
+        if number < MAX_REGISTERS {
+            Some(Register { number })
+        } else {
+            None
+        }
+    }
+}
 
 /// A set of writes: for each register the value that is written to it, if any.
 #[derive(Clone, Copy)]
@@ -23,12 +46,11 @@ impl Kept {
     }
 
     /// One write.
-    pub(crate) fn one(register: usize, value: u32) -> Kept
-        requires { register < 64 }
-        ensures { meaning result ≡ one_write register value }
+    pub(crate) fn one(register: Register, value: u32) -> Kept
+        ensures { meaning result ≡ one_write register.number value }
     {
         let mut values = [None; MAX_REGISTERS];
-        values[register] = Some(value);
+        values[register.number] = Some(value);
         Kept { values }
     }
 
@@ -36,11 +58,7 @@ impl Kept {
     pub fn get(&self, register: usize) -> Option<u32>
         ensures { result ≡ meaning self.now register }
     {
-        if register < MAX_REGISTERS {
-            self.values[register]
-        } else {
-            None
-        }
+        self.values.get(register).copied().flatten()
     }
 
     /// The written registers, by the bit of value 2^r for register r.
@@ -48,9 +66,9 @@ impl Kept {
         ensures { result ≡ mask (meaning self.now) }
     {
         let mut mask = 0;
-        for i in 0..MAX_REGISTERS {
-            if self.get(i).is_some() {
-                mask += 1 << i;
+        for (register, value) in self.values.iter().enumerate() {
+            if value.is_some() {
+                mask += 1 << register;
             }
         }
         mask
@@ -60,9 +78,9 @@ impl Kept {
     pub fn make(&self, values: &mut [u32])
         ensures { values.new ≡ after (meaning self.now) values.old }
     {
-        for i in 0..values.len() {
-            if let Some(value) = self.get(i) {
-                values[i] = value;
+        for (register, value) in values.iter_mut().enumerate() {
+            if let Some(written) = self.get(register) {
+                *value = written;
             }
         }
     }
@@ -71,22 +89,18 @@ impl Kept {
     pub(crate) fn shares(&self, other: &Kept) -> bool
         ensures { result ≡ shared (meaning self.now) (meaning other.now) }
     {
-        for i in 0..MAX_REGISTERS {
-            if self.get(i).is_some() && other.get(i).is_some() {
-                return true;
-            }
-        }
-        false
+        self.values
+            .iter()
+            .zip(&other.values)
+            .any(|(first, second)| first.is_some() && second.is_some())
     }
 
-    /// Puts later writes over these.
-    pub(crate) fn put(&mut self, later: &Kept)
-        ensures { meaning self.new ≡ over (meaning later.now) (meaning self.old) }
+    /// These writes over earlier ones.
+    pub(crate) fn over(&self, earlier: &Kept) -> Kept
+        ensures { meaning result ≡ over (meaning self.now) (meaning earlier.now) }
     {
-        for i in 0..MAX_REGISTERS {
-            if let Some(value) = later.values[i] {
-                self.values[i] = Some(value);
-            }
+        Kept {
+            values: array::from_fn(|register| self.get(register).or(earlier.get(register))),
         }
     }
 }

@@ -15,7 +15,8 @@ use Rattle.checker.specs.Accepted.{Bytes}
 use Rattle.checker.proofs.Decoded.{decoded}
 use Rattle.parts.proofs.Records.{register_again, body_again}
 use Rattle.outcome.specs.Outcome.{outcome}
-use Rattle.outcome.proofs.Again as Again
+use Rattle.outcome.specs.Working.{body_worked}
+use Rattle.outcome.proofs.Again.{gives_outcome}
 use Rattle.proofread.specs.Proofreading.{found, values_fit, rule_at, of_rule, of_program, proofreading}
 use Rattle.proofread.specs.Steps.{fitting, body_at, read_rules, read_accepted, read_through}
 
@@ -59,7 +60,7 @@ module _ (rule : ℕ) (values : List ℕ) where
   found_there : (kinds : List Kind) (us : List Action) (s : List ℕ) → length kinds ≤ 64 → (t : There kinds us rule s) → (fit : Bool) →
       read_rules rule values (cond fit (Some (all_bytes rule_bytes us s)) None)
       ≡ cond fit (found values (outcome values t.rule)) (refuses 18 None, values)
-  found_there kinds us s few t true = rw (t.body, Again.body_again values (action_bytes t.rule []) kinds t.rule few t.good refl)
+  found_there kinds us s few t true = rw (t.body, gives_outcome values (action_bytes t.rule []) (body_worked values (action_bytes t.rule [])) refl kinds t.rule few t.good refl)
   found_there kinds us s few t false = refl
 
   accepted : (p : Program) → WellFormed p →

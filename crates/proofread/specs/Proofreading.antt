@@ -12,18 +12,11 @@ use Rattle.program.specs.Decoding.{program_of}
 use Rattle.program.specs.Verdict.{verdict}
 use Rattle.outcome.specs.Writes.{Writes, mask, after}
 use Rattle.outcome.specs.Outcome.{Given, ready, not_ready, outcome}
-use Rattle.proofread.specs.declared.Finding.{Finding}
-use Rattle.proofread.specs.declared.Finding.TheVariants.{Ready, NotReady}
 
 -- What proofreading says, and the values in the list. A rule is ready, and then there is the mask of the registers that it writes,
 -- or it is not ready.
 abbrev pub Read : Type 0
 Read = Says (Given ℕ) × List ℕ
-
--- What a finding of the code stands for.
-abbrev pub finding : Finding → Given ℕ
-finding (Ready m) = ready m
-finding NotReady = not_ready
 
 -- The list has just one value for each register, and each value fits its register's kind: a truth is at most 1.
 abbrev pub values_fit : List Kind → List ℕ → Bool

@@ -1,30 +1,25 @@
 // Proofreading: what a single rule does on given values of the registers.
 #![tactic(auto)]
 
-ghost use Rattle.std.specs.Prelude.{◌≡◌};
-ghost use Rattle.outcome.specs.Workers.{given_by};
+ghost use Rattle.std.specs.Prelude.{◌≡◌, option_map};
+ghost use Rattle.outcome.specs.Held.{given, itself};
+ghost use Rattle.outcome.specs.Kept.{meaning};
 ghost use Rattle.outcome.specs.Laws.{RulesAgree, WorkedCases, NoDoubleWrite, BranchesAlone, FailureKeepsNothing, BranchesExchange};
-ghost use Rattle.terms.specs.Answers.{stands_for};
-ghost use Rattle.proofread.specs.Proofreading.{finding, proofreading};
+ghost use Rattle.terms.specs.Answers.{answers, stands_for};
+ghost use Rattle.proofread.specs.Proofreading.{found, proofreading};
 ghost use Rattle.proofread.specs.Steps.{fitting, body_at, worked_at, read_through, bytes_of};
 
 use checker::check;
-use outcome::done::Done;
+use outcome::given::{Given, NotReady};
 use outcome::worker::work_out;
+use outcome::writes::Kept;
 use parts::{take_register, take_rule};
-use terms::refusal::{Fault, Refused};
+use terms::refusal::Refused;
 
-/// What proofreading finds of a rule.
-#[derive(Clone, Copy, Debug, PartialEq, Eq)]
-pub enum Finding {
-    /// The rule is ready, and writes the registers of this mask: the bit of value 2^r stands for register r.
-    Ready(u64),
-    NotReady,
-}
-
-/// Carries a rule out on a list of the registers' values, where it is ready; a refusal, and a rule that is not ready, leave the list.
-pub fn proofread(program: &[u8], rule: usize, values: &mut [u32]) -> Result<Finding, Refused>
-    ensures is { (stands_for finding result, values.new) ≡ proofreading program.now rule values.old }
+/// Carries a rule out on a list of the registers' values, where it is ready, and answers the mask of the registers that it writes:
+/// the bit of value 2^r stands for register r. A refusal, and a rule that is not ready, leave the list.
+pub fn proofread(program: &[u8], rule: usize, values: &mut [u32]) -> Result<Given<u64>, Refused>
+    ensures is { (stands_for (given itself) result, values.new) ≡ proofreading program.now rule values.old }
     ensures agree { RulesAgree }
     ensures cases { WorkedCases }
     ensures no_double_write { NoDoubleWrite }
@@ -67,25 +62,30 @@ fn body(rules: &[u8], number: usize) -> Option<&[u8]>
 }
 
 /// What the rule of a number gives, where there is one.
-fn work(rules: &[u8], number: usize, values: &[u32]) -> Option<Done>
-    ensures { given_by result ≡ worked_at number values.now rules.now }
+fn work(rules: &[u8], number: usize, values: &[u32]) -> Option<Given<Kept>>
+    ensures { option_map (given meaning) result ≡ worked_at number values.now rules.now }
 {
     work_out(body(rules, number)?, values)
 }
 
-fn read(program: &[u8], rule: usize, values: &mut [u32]) -> Result<Finding, Refused>
-    ensures { (stands_for finding result, values.new) ≡ read_through program.now rule values.old }
+/// Makes the writes of a rule that is ready, and answers their mask.
+fn carried_out(done: Given<Kept>, values: &mut [u32]) -> Given<u64>
+    ensures { (answers (given itself result), values.new) ≡ found values.old (given meaning done) }
+{
+    let writes = done?;
+    writes.make(values);
+    Ok(writes.mask())
+}
+
+fn read(program: &[u8], rule: usize, values: &mut [u32]) -> Result<Given<u64>, Refused>
+    ensures { (stands_for (given itself) result, values.new) ≡ read_through program.now rule values.old }
 {
     let counts = check(program)?;
     if rule >= counts.rules {
         return Err(Refused::Rule);
     }
-    let Some(rules) = behind_registers(program, values) else {
-        return Err(Refused::Values);
-    };
-    let Some(Done::Ready(writes)) = work(rules, rule, values) else {
-        return Ok(Finding::NotReady);
-    };
-    writes.make(values);
-    Ok(Finding::Ready(writes.mask()))
+    let rules = behind_registers(program, values).ok_or(Refused::Values)?;
+    // An accepted program has a body wherever it has a rule.
+    let done = work(rules, rule, values).unwrap_or(Err(NotReady));
+    Ok(carried_out(done, values))
 }

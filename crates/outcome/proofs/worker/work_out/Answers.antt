@@ -1,9 +1,9 @@
-use Rattle.std.proofs.Common.{◌∙◌}
-use Rattle.outcome.proofs.Again.{body_again}
+use Rattle.std.proofs.Common.{rules}
+use Rattle.outcome.proofs.Again.{gives_outcome}
 use Rattle.outcome.proofs.worker.work_out.Goals as goal
 
-pub returns : goal.returns
-returns c = record {
-  is = c.work_body.ensures;
-  outcome = λ kinds a few good is. c.work_body.ensures ∙ body_again c.args.values.now c.args.body.now kinds a few good is;
-}
+pub returns-in_err-done-clause-outcome : goal.returns-in_err-done-clause-outcome
+returns-in_err-done-clause-outcome c = gives_outcome _ _ _ (search rules)
+
+pub returns-clause-outcome : goal.returns-clause-outcome
+returns-clause-outcome c = gives_outcome _ _ _ (search rules)

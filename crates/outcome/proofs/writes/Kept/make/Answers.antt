@@ -5,5 +5,5 @@ use Rattle.outcome.proofs.writes.Kept.make.Goals as goal
 
 pub returns : goal.returns
 returns c =
-    is_after (meaning c.args.self.now) c.args.values.now c.loop-i.values c.loop-i.i
+    is_after (meaning c.args.self.now) c.args.values.now c.loop-register.values c.loop-register.register
     (search rules) (search rules) (search rules)

@@ -1,23 +1,15 @@
-use Rattle.std.proofs.Common.{sym, rules}
-use Rattle.outcome.specs.Kept.{meaning}
-use Rattle.outcome.proofs.Arrays.{shared_none, shared_more, there}
-use Rattle.outcome.proofs.Shared.{is_shared}
+use Rattle.std.proofs.Common.{◌≡◌, true, false, Option, ℕ, rules, tests}
+use Rattle.std.proofs.lemmas.Iterator.{cases_from_any, YieldsList-from_slice, YieldsList-from_zip}
+use Rattle.outcome.specs.Writes.{is_write, both}
+use Rattle.outcome.proofs.Arrays.{shared_is}
 use Rattle.outcome.proofs.writes.Kept.shares.Goals as goal
 
-pub loop-i-init : goal.loop-i-init
-loop-i-init c = shared_none (meaning c.args.self.now) (meaning c.args.other.now)
-
-pub returns-then-is_some-2 : goal.returns-then-is_some-2
-returns-then-is_some-2 c =
-    let p = meaning c.args.self.now in
-    let q = meaning c.args.other.now in
-    sym (is_shared 64 p q c.loop-i.i c.loop-i-test.true
-    (there c.get.result (p c.loop-i.i) c.get.ensures c.if-is_some.ensures)
-    (there c.get-then-is_some.result (q c.loop-i.i) c.get-then-is_some.ensures c.if-is_some-2.ensures))
-
-pub loop-i-preserved : goal.loop-i-preserved
-loop-i-preserved c =
-    let e = shared_more c.loop-i.i (meaning c.args.self.now) (meaning c.args.other.now) in search rules
-
 pub returns : goal.returns
-returns c = search rules
+returns c =
+    let xs = c.args.self.now.values in
+    let ys = c.args.other.now.values in
+    shared_is c.any.result xs ys (search rules) (search rules)
+    (cases_from_any c.any.new.self _ _ (λ (p : Option ℕ × Option ℕ). both (is_write p.0) (is_write p.1) ≡ true)
+    (λ (p : Option ℕ × Option ℕ). both (is_write p.0) (is_write p.1) ≡ false) c.any.ensures.ran
+    (YieldsList-from_zip (YieldsList-from_slice xs cc) (YieldsList-from_slice ys cc))
+    (λ x q k. search (rules, tests)) (λ x q k. search (rules, tests)))

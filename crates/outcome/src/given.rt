@@ -1,0 +1,28 @@
+// What a part gives where it is ready, or that it is not ready.
+
+ghost use Rattle.std.specs.Prelude.{◌≡◌};
+ghost use Rattle.outcome.specs.Held.{given, itself};
+ghost use Rattle.outcome.specs.Working.{operator_gives, choice_gives};
+
+use crate::operator::operate;
+
+/// A part that is not ready.
+#[derive(Clone, Copy, Debug, PartialEq, Eq)]
+pub struct NotReady;
+
+/// What a part gives, or that it is not ready.
+pub type Given<T> = Result<T, NotReady>;
+
+/// The operator's value, where both operands are ready.
+pub(crate) fn operated(operator: u8, left: Given<u32>, right: Given<u32>) -> Given<u32>
+    ensures { given itself result ≡ operator_gives operator (given itself left) (given itself right) }
+{
+    Ok(operate(operator, left?, right?))
+}
+
+/// The first where the truth is 1, and the second where it is 0.
+pub(crate) fn chosen<T: Drop>(truth: Given<u32>, first: Given<T>, second: Given<T>) -> Given<T>
+    ensures { given itself result ≡ choice_gives (given itself truth) (given itself first) (given itself second) }
+{
+    if truth? == 0 { second } else { first }
+}
