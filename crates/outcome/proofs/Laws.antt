@@ -3,6 +3,7 @@ use Rattle.std.proofs.Common.{◌≡◌, ℕ, Bool, true, false, cond, ◌⊎◌
 use Rattle.outcome.specs.Writes.{shared_below, Writes, or_else, over, shared}
 use Rattle.outcome.specs.Outcome.{Given, ready, not_ready, and_ready, joined, writes}
 use Rattle.outcome.specs.Laws.{WorkedCases, NoDoubleWrite, BranchesAlone, FailureKeepsNothing, SameWrites, BranchesExchange}
+use Rattle.outcome.proofs.Agree.{rules_agree}
 use Rattle.outcome.proofs.Shared.{apart_below, not_shared, is_shared, written_twice}
 
 pub worked_cases : WorkedCases
@@ -77,3 +78,6 @@ branches_exchange store so_far bound a b = go (writes store so_far bound a) (wri
     go (ready p) not_ready = tt
     go not_ready (ready q) = tt
     go not_ready not_ready = tt
+
+-- All that is said of the meaning of rules.
+pub ruleset laws = (rules_agree, worked_cases, no_double_write, branches_alone, failure_keeps_nothing, branches_exchange)

@@ -3,5 +3,5 @@ pub mod Agree
 pub mod Laws
 pub mod Arrays
 pub mod Masks
-pub mod Parts
+pub mod Steps
 pub mod Again

@@ -1,6 +1,11 @@
 -- The mask of a set of writes, and the values after it.
-use Rattle.std.proofs.Common.{◌≡◌, ℕ, zero, suc, ◌+◌, ◌*◌, ◌%◌, ◌^◌, ◌<◌, ◌≤◌, Bool, true, false, cond, ltb, List, [], ◌∷◌, length, get_or, sym, refl, ap, ◌∙◌, one-mul, pow-suc, add-one, arith, ext_get_or, pow_mono, shl_exact, lt-ltb}
+use Rattle.std.proofs.Common.{◌≡◌, ℕ, zero, suc, ◌+◌, ◌*◌, ◌%◌, ◌^◌, ◌<◌, ◌≤◌, Bool, true, false, cond, ltb, List, [], ◌∷◌, length, get_or, sym, refl, ap, ◌∙◌, one-mul, pow-suc, add-one, arith, ext_get_or, shl_exact, lt-ltb}
 use native.Mathlib.Nat.{pow-zero}
+use Rattle.std.proofs.Math.Nat.{div-eq_of_lt, zero-mul}
+use Rattle.std.proofs.lemmas.Nat.{or_disjoint}
+use Rattle.std.proofs.lemmas.Nat.Bits.{and_pow}
+use Rattle.std.specs.Int.{bit_at}
+use Rattle.std.specs.Prelude.{bit_or}
 use Rattle.outcome.specs.Writes.{Writes, is_write, value_or, reading, mask_below, after_from, after}
 
 -- One register more that may be written.
@@ -28,17 +33,12 @@ mask_small (suc n) w = go (is_write (w n)) (mask_small n w)
     go true small = let d = doubled n in omega arith
     go false small = let d = doubled n in omega arith
 
--- A bit that a word of 64 bits has.
-pub bit_is : (i : ℕ) → i < 64 → 1 * 2 ^ i % 18446744073709551616 ≡ 2 ^ i
-bit_is i less = shl_exact {a = 1} 1 i 64 (omega arith) (omega arith) ∙ one-mul (2 ^ i)
-
--- The sum with that bit has no more than 64 bits.
-pub mask_fits : (i : ℕ) (w : Writes) → i < 64 → mask_below i w + 2 ^ i < 18446744073709551616
-mask_fits i w less =
-    let s = mask_small i w in
-    let d = doubled i in
-    let m : 2 ^ suc i ≤ 2 ^ 64 = pow_mono {i = suc i} {j = 64} (omega arith) in
-    omega arith
+-- The bit of a register, set in a mask of the registers before it.
+pub mask_set : (i : ℕ) (w : Writes) → i < 64 → bit_or (mask_below i w) (1 * 2 ^ i % 18446744073709551616) ≡ mask_below i w + 2 ^ i
+mask_set i w less =
+    let bit : 1 * 2 ^ i % 18446744073709551616 ≡ 2 ^ i = shl_exact {a = 1} 1 i 64 (omega arith) (omega arith) ∙ one-mul (2 ^ i) in
+    let none : bit_at (mask_below i w) i ≡ 0 = ap (λ (n : ℕ). n % 2) (div-eq_of_lt (mask_small i w)) in
+    rw bit (or_disjoint (mask_below i w) (2 ^ i) (and_pow (mask_below i w) i ∙ ap (λ (n : ℕ). n * 2 ^ i) none ∙ zero-mul (2 ^ i)))
 
 -- The values after the writes: as many, and each is what its register then reads as.
 length_after : (r : ℕ) (w : Writes) (vs : List ℕ) → length (after_from r w vs) ≡ length vs

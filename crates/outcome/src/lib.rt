@@ -13,6 +13,7 @@ pub mod writes;
 
 /// Says, by its contract alone, what holds of the meaning of rules: the operational rules and the definition agree, the worked
 /// cases come out as they should, and the readings that go astray are ruled out.
+#[tactic(auto, using(crate::proofs::Laws::laws))]
 pub fn meaning_stands()
     ensures agree { RulesAgree }
     ensures cases { WorkedCases }

@@ -33,7 +33,7 @@ impl Worker<'_> {
     }
 
     /// Works the expression at the front of the input out.
-    #[tactic(auto, using(crate::proofs::Parts::value_none, crate::proofs::Parts::value_more))]
+    #[tactic(auto, using(crate::proofs::Steps::value_none, crate::proofs::Steps::value_more))]
     fn value(
         &self,
         input: &mut &[u8],
@@ -81,7 +81,7 @@ impl Worker<'_> {
     }
 
     /// Works the action at the front of the input out.
-    #[tactic(auto, using(crate::proofs::Parts::writes_none, crate::proofs::Parts::writes_more))]
+    #[tactic(auto, using(crate::proofs::Steps::writes_none, crate::proofs::Steps::writes_more))]
     fn action(
         &self,
         input: &mut &[u8],

@@ -62,13 +62,14 @@ impl Kept {
     }
 
     /// The written registers, by the bit of value 2^r for register r.
+    #[tactic(auto, using(crate::proofs::Masks::mask_none, crate::proofs::Masks::mask_more, crate::proofs::Masks::mask_set))]
     pub fn mask(&self) -> u64
         ensures { result ≡ mask (meaning self.now) }
     {
         let mut mask = 0;
         for (register, value) in self.values.iter().enumerate() {
             if value.is_some() {
-                mask += 1 << register;
+                mask |= 1 << register;
             }
         }
         mask

@@ -1,5 +1,5 @@
 -- What proofreading finds on the bytes of an accepted program is what the program's rules give.
-use Rattle.std.proofs.Common.{◌≡◌, ℕ, zero, suc, ◌<◌, ◌≤◌, Bool, true, false, cond, ltb, List, [], ◌∷◌, length, Some, None, Ok, Err, Result, refl, ap, ◌∙◌, arith, ltb-false, ltb-true}
+use Rattle.std.proofs.Common.{◌≡◌, ℕ, zero, suc, ◌<◌, ◌≤◌, Bool, true, false, cond, ltb, List, [], ◌∷◌, length, get_or, w8, Fits, Some, None, Ok, Err, Result, refl, ap, ◌∙◌, arith, ltb-false, ltb-true}
 use lib.ListN.{length-map}
 use Rattle.terms.specs.declared.kind.Kind.{Kind}
 use Rattle.terms.specs.declared.refusal.Fault.{Fault}
@@ -12,12 +12,12 @@ use Rattle.program.specs.Typing.{All, kinds_of, GoodRule, SomeUpTo, WellFormed}
 use Rattle.program.specs.Decoding.{register_of, program_of}
 use Rattle.program.specs.Verdict.{verdict}
 use Rattle.checker.specs.Accepted.{Bytes}
-use Rattle.checker.proofs.Decoded.{decoded}
+use Rattle.checker.proofs.Decoded.{each, decoded}
 use Rattle.parts.proofs.Records.{register_again, body_again}
 use Rattle.outcome.specs.Outcome.{outcome}
 use Rattle.outcome.specs.Working.{body_worked}
 use Rattle.outcome.proofs.Again.{gives_outcome}
-use Rattle.proofread.specs.Proofreading.{found, values_fit, rule_at, of_rule, of_program, proofreading}
+use Rattle.proofread.specs.Proofreading.{Read, found, values_fit, rule_at, of_rule, of_program, proofreading}
 use Rattle.proofread.specs.Steps.{fitting, body_at, read_rules, read_accepted, read_through}
 
 -- The registers that were encoded, before what is no register.
@@ -101,3 +101,8 @@ module _ (rule : ℕ) (values : List ℕ) where
           ap (λ (n : ℕ). cond (ltb rule n) (read_rules rule values (fitting values bytes)) (refuses 14 None, values)) (ap (λ (k : Counts). k.rules) d.1)
           ∙ ap (λ (b : List ℕ). cond (ltb rule (length p.rules)) (read_rules rule values (fitting values b)) (refuses 14 None, values)) d.0.1
           ∙ accepted p d.0.0
+
+-- What is read through on a slice of bytes is what proofreading says.
+pub reads : (bytes : List ℕ) (rule : ℕ) (values : List ℕ) (x : Read) → ((i : ℕ) → Fits w8 (get_or bytes i 0)) →
+    x ≡ read_through bytes rule values → x ≡ proofreading bytes rule values
+reads bytes rule values x all e = e ∙ through rule values bytes (each bytes all)

@@ -18,6 +18,7 @@ use terms::refusal::Refused;
 
 /// Carries a rule out on a list of the registers' values, where it is ready, and answers the mask of the registers that it writes:
 /// the bit of value 2^r stands for register r. A refusal, and a rule that is not ready, leave the list.
+#[tactic(auto, using(outcome::proofs::Laws::laws))]
 pub fn proofread(program: &[u8], rule: usize, values: &mut [u32]) -> Result<Given<u64>, Refused>
     ensures is { (stands_for (given itself) result, values.new) ≡ proofreading program.now rule values.old }
     ensures agree { RulesAgree }
@@ -27,10 +28,18 @@ pub fn proofread(program: &[u8], rule: usize, values: &mut [u32]) -> Result<Give
     ensures failure_keeps_nothing { FailureKeepsNothing }
     ensures branches_exchange { BranchesExchange }
 {
-    read(program, rule, values)
+    let counts = check(program)?;
+    if rule >= counts.rules {
+        return Err(Refused::Rule);
+    }
+    let rules = behind_registers(program, values).ok_or(Refused::Values)?;
+    // An accepted program has a body wherever it has a rule.
+    let done = work(rules, rule, values).unwrap_or(Err(NotReady));
+    Ok(carried_out(done, values))
 }
 
 /// The bytes of the rules, where the list has one value for each register, and each fits its kind.
+#[tactic(auto, using(crate::proofs::Loops::fitting_next, crate::proofs::Loops::fitting_end))]
 fn behind_registers<'a>(program: &'a [u8], values: &[u32]) -> Option<&'a [u8]>
     ensures { bytes_of result ≡ fitting values.now program.now }
 {
@@ -49,6 +58,7 @@ fn behind_registers<'a>(program: &'a [u8], values: &[u32]) -> Option<&'a [u8]>
 }
 
 /// The body of the rule of a number, where there is one.
+#[tactic(auto, using(crate::proofs::Loops::body_next, crate::proofs::Loops::body_here))]
 fn body(rules: &[u8], number: usize) -> Option<&[u8]>
     ensures { bytes_of result ≡ body_at number rules.now }
 {
@@ -75,17 +85,4 @@ fn carried_out(done: Given<Kept>, values: &mut [u32]) -> Given<u64>
     let writes = done?;
     writes.make(values);
     Ok(writes.mask())
-}
-
-fn read(program: &[u8], rule: usize, values: &mut [u32]) -> Result<Given<u64>, Refused>
-    ensures { (stands_for (given itself) result, values.new) ≡ read_through program.now rule values.old }
-{
-    let counts = check(program)?;
-    if rule >= counts.rules {
-        return Err(Refused::Rule);
-    }
-    let rules = behind_registers(program, values).ok_or(Refused::Values)?;
-    // An accepted program has a body wherever it has a rule.
-    let done = work(rules, rule, values).unwrap_or(Err(NotReady));
-    Ok(carried_out(done, values))
 }

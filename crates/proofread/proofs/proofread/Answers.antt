@@ -1,17 +1,25 @@
-use Rattle.std.proofs.Common.{◌∙◌}
-use Rattle.checker.proofs.Decoded.{each}
-use Rattle.outcome.proofs.Agree.{rules_agree}
-use Rattle.outcome.proofs.Laws.{worked_cases, no_double_write, branches_alone, failure_keeps_nothing, branches_exchange}
-use Rattle.proofread.proofs.Through.{through}
+use Rattle.std.proofs.Common.{rules}
+use Rattle.outcome.proofs.Laws.{no_double_write}
+use Rattle.proofread.proofs.Through.{reads}
 use Rattle.proofread.proofs.proofread.Goals as goal
 
-pub returns : goal.returns
-returns c = record {
-  is = c.read.ensures ∙ through c.args.rule c.args.values.now c.args.program.now (each c.args.program.now c.type_inv.program);
-  agree = rules_agree;
-  cases = worked_cases;
-  no_double_write = no_double_write;
-  branches_alone = branches_alone;
-  failure_keeps_nothing = failure_keeps_nothing;
-  branches_exchange = branches_exchange;
-}
+pub returns-then-rule-counts-clause-is : goal.returns-then-rule-counts-clause-is
+returns-then-rule-counts-clause-is c = reads _ _ _ _ c.type_inv.program (search rules)
+
+pub returns-in_err-rules-clause-is : goal.returns-in_err-rules-clause-is
+returns-in_err-rules-clause-is c = reads _ _ _ _ c.type_inv.program (search rules)
+
+pub returns-clause-is : goal.returns-clause-is
+returns-clause-is c = reads _ _ _ _ c.type_inv.program (search rules)
+
+pub returns-in_err-counts-clause-no_double_write : goal.returns-in_err-counts-clause-no_double_write
+returns-in_err-counts-clause-no_double_write c = no_double_write
+
+pub returns-then-rule-counts-clause-no_double_write : goal.returns-then-rule-counts-clause-no_double_write
+returns-then-rule-counts-clause-no_double_write c = no_double_write
+
+pub returns-in_err-rules-clause-no_double_write : goal.returns-in_err-rules-clause-no_double_write
+returns-in_err-rules-clause-no_double_write c = no_double_write
+
+pub returns-clause-no_double_write : goal.returns-clause-no_double_write
+returns-clause-no_double_write c = no_double_write

@@ -1,5 +1,5 @@
 use Rattle.std.proofs.Common.{◌<◌, rules}
-use Rattle.outcome.proofs.Parts.{writes_more}
+use Rattle.outcome.proofs.Steps.{writes_more}
 use Rattle.outcome.proofs.worker.Worker.+action.Goals as goal
 
 pub returns-in_err-lets-in-Let : goal.returns-in_err-lets-in-Let

@@ -1,4 +1,4 @@
--- The definitions of what is worked out, unfolded once, and what a choice of the code stands for.
+-- The definitions of what is worked out, unfolded once: with no level left, and with one at least.
 use Rattle.std.proofs.Common.{◌≡◌, ℕ, zero, suc, ◌-◌, ◌<◌, List, None, refl, arith}
 use Rattle.terms.specs.Nodes.{value_node, action_node}
 use Rattle.program.specs.Decoding.{and_some, one}
