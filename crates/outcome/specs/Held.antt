@@ -1,7 +1,7 @@
 -- What the code holds, in the words of the definitions.
-use Rattle.std.specs.Prelude.{map, take, Ok, Err, Result}
+use Rattle.std.specs.Prelude.{ℕ, map, Ok, Err, Result}
 use Rattle.outcome.specs.declared.given.NotReady.{NotReady}
-use Rattle.outcome.specs.declared.bindings.Bindings as Declared
+use Rattle.tree.specs.Paths.{Path}
 use Rattle.outcome.specs.Outcome.{Given, ready, not_ready, Bindings}
 
 -- What the code gives of a part, where f says what its values stand for: a value is ready, and the error says that the part is not.
@@ -13,6 +13,6 @@ given f (Err e) = not_ready
 abbrev pub itself : {A : Type 0} → A → A
 itself x = x
 
--- What lets have bound.
-abbrev pub bound_of : Declared.Bindings → Bindings
-bound_of b = map (given itself) (take b.count b.values)
+-- What the lets on a way have bound.
+abbrev pub bound_of : Path (Result ℕ NotReady) → Bindings
+bound_of way = map (given itself) way.scope

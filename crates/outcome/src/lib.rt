@@ -4,9 +4,7 @@
 ghost use Rattle.outcome.specs.Laws.{RulesAgree, WorkedCases, NoDoubleWrite, BranchesAlone, FailureKeepsNothing, BranchesExchange};
 
 mod actions;
-mod bindings;
 pub mod given;
-mod input;
 pub mod operator;
 pub mod worker;
 pub mod writes;

@@ -1,21 +1,32 @@
 // The operators on words and truths.
 
 ghost use Rattle.std.specs.Prelude.{◌≡◌};
+ghost use Rattle.terms.specs.Kinds.{operator_number};
 ghost use Rattle.outcome.specs.Outcome.{operated};
 
-/// The value of an operator, by its number.
+use terms::kind::Operator;
+
+/// The value of an operator.
+pub fn apply(operator: Operator, left: u32, right: u32) -> u32
+    ensures { result ≡ operated (operator_number operator) left right }
+{
+    match operator {
+        Operator::Sum => left.wrapping_add(right),
+        Operator::Difference => left.wrapping_sub(right),
+        Operator::And => left & right,
+        Operator::Or => left | right,
+        Operator::ExclusiveOr => left ^ right,
+        Operator::Less => u32::from(left < right),
+        Operator::Equal => u32::from(left == right),
+        Operator::Both => u32::from(left != 0 && right != 0),
+        Operator::Either => u32::from(left != 0 || right != 0),
+    }
+}
+
+/// The value of an operator, by its number. A number that is none counts as the last one.
 pub fn operate(operator: u8, left: u32, right: u32) -> u32
     ensures { result ≡ operated operator left right }
 {
-    match operator {
-        0 => left.wrapping_add(right),
-        1 => left.wrapping_sub(right),
-        2 => left & right,
-        3 => left | right,
-        4 => left ^ right,
-        5 => u32::from(left < right),
-        6 => u32::from(left == right),
-        7 => u32::from(left != 0 && right != 0),
-        _ => u32::from(left != 0 || right != 0),
-    }
+    let operator = Operator::try_from(operator).unwrap_or(Operator::Either);
+    apply(operator, left, right)
 }

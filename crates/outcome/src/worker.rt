@@ -1,18 +1,19 @@
 // The worker: it works an expression or an action out on its bytes.
 
-ghost use Rattle.std.specs.Prelude.{◌≡◌, ◌+◌, ◌≤◌, option_map};
+ghost use Rattle.std.specs.Prelude.{◌≡◌, option_map, slice_index_or};
 ghost use Rattle.outcome.specs.Kept.{meaning};
 ghost use Rattle.outcome.specs.Writes.{reading};
+ghost use Rattle.outcome.specs.Outcome.{not_ready};
 ghost use Rattle.outcome.specs.Held.{given, itself, bound_of};
 ghost use Rattle.outcome.specs.Workers.{with_rest};
 ghost use Rattle.outcome.specs.Working.{value_worked, writes_worked, body_worked, GivesOutcome};
 
 use crate::actions::{beside, or_none, so_far_behind, then, update};
-use crate::bindings::Bindings;
 use crate::given::{Given, NotReady, chosen, operated};
-use crate::input::{byte, word};
 use crate::writes::{Kept, Register};
+use terms::input::{byte, word};
 use terms::node::{ActionNode, ValueNode};
+use tree::way::Way;
 
 /// What the registers read as while a body is worked out.
 #[derive(Clone, Copy)]
@@ -21,6 +22,15 @@ struct Worker<'a> {
     store: &'a [u32],
     /// The writes so far.
     so_far: &'a Kept,
+}
+
+/// What the let of a number on the way has bound; one that is not on it counts as not ready.
+#[tactic(auto, using(crate::proofs::Steps::bound_at))]
+fn bound(way: &Way<Given<u32>>, number: usize) -> Given<u32>
+    ensures { given itself result ≡ slice_index_or (bound_of way.now) number not_ready }
+{
+    let bound = way.scope().get(number).copied();
+    bound.unwrap_or(Err(NotReady))
 }
 
 impl Worker<'_> {
@@ -35,92 +45,90 @@ impl Worker<'_> {
     }
 
     /// Works the expression at the front of the input out.
-    #[tactic(auto, using(crate::proofs::Steps::value_none, crate::proofs::Steps::value_more))]
-    fn value(&self, input: &mut &[u8], depth: u8, lets: u8, bound: Bindings) -> Option<Given<u32>>
-        requires { bound.count + lets ≤ 8 }
-        ensures { with_rest (given itself) result input.new.now ≡ value_worked self.now.store.now (meaning self.now.so_far.now) depth lets (bound_of bound) input.old.now }
+    #[tactic(auto, using(crate::proofs::Steps::value_none, crate::proofs::Steps::value_more, std::proofs::lemmas::List::map_push))]
+    fn value(&self, way: &Way<Given<u32>>, input: &mut &[u8]) -> Option<Given<u32>>
+        ensures { with_rest (given itself) result input.new.now ≡ value_worked self.now.store.now (meaning self.now.so_far.now) way.now.depth way.now.lets (bound_of way.now) input.old.now }
     {
-        let depth = depth.checked_sub(1)?;
-        match ValueNode::from_byte(byte(input)?)? {
+        let way = way.deeper()?;
+        match ValueNode::try_from(byte(input)?).ok()? {
             ValueNode::Register => {
                 let register = usize::from(byte(input)?);
                 Some(Ok(self.read(register)))
             }
             ValueNode::Word => Some(Ok(word(input)?)),
             ValueNode::Truth => Some(Ok(u32::from(byte(input)?))),
-            ValueNode::Variable => Some(bound.get(usize::from(byte(input)?))),
+            ValueNode::Variable => Some(bound(&way, usize::from(byte(input)?))),
             ValueNode::Operator => {
                 let operator = byte(input)?;
-                let left = self.value(input, depth, lets, bound)?;
-                let right = self.value(input, depth, lets, bound)?;
+                let left = self.value(&way, input)?;
+                let right = self.value(&way, input)?;
                 Some(operated(operator, left, right))
             }
             ValueNode::Choice => {
-                let truth = self.value(input, depth, lets, bound)?;
-                let first = self.value(input, depth, lets, bound)?;
-                let second = self.value(input, depth, lets, bound)?;
+                let truth = self.value(&way, input)?;
+                let first = self.value(&way, input)?;
+                let second = self.value(&way, input)?;
                 Some(chosen(truth, first, second))
             }
             ValueNode::Guard => {
-                let value = self.value(input, depth, lets, bound)?;
-                let truth = self.value(input, depth, lets, bound)?;
+                let value = self.value(&way, input)?;
+                let truth = self.value(&way, input)?;
                 Some(chosen(truth, value, Err(NotReady)))
             }
             ValueNode::Let => {
-                let lets = lets.checked_sub(1)?;
+                let within = way.past_let()?;
                 byte(input)?;
-                let first = self.value(input, depth, lets, bound)?;
-                self.value(input, depth, lets, bound.bind(first))
+                let first = self.value(within.first(), input)?;
+                self.value(&within.bind(first), input)
             }
         }
     }
 
     /// Works the action at the front of the input out.
-    #[tactic(auto, using(crate::proofs::Steps::writes_none, crate::proofs::Steps::writes_more))]
-    fn action(&self, input: &mut &[u8], depth: u8, lets: u8, bound: Bindings) -> Option<Given<Kept>>
-        requires { bound.count + lets ≤ 8 }
-        ensures { with_rest (given meaning) result input.new.now ≡ writes_worked self.now.store.now depth (meaning self.now.so_far.now) lets (bound_of bound) input.old.now }
+    #[tactic(auto, using(crate::proofs::Steps::writes_none, crate::proofs::Steps::writes_more, std::proofs::lemmas::List::map_push))]
+    fn action(&self, way: &Way<Given<u32>>, input: &mut &[u8]) -> Option<Given<Kept>>
+        ensures { with_rest (given meaning) result input.new.now ≡ writes_worked self.now.store.now way.now.depth (meaning self.now.so_far.now) way.now.lets (bound_of way.now) input.old.now }
     {
-        let depth = depth.checked_sub(1)?;
-        match ActionNode::from_byte(byte(input)?)? {
+        let way = way.deeper()?;
+        match ActionNode::try_from(byte(input)?).ok()? {
             ActionNode::Assign => {
                 let register = Register::new(byte(input)?)?;
-                let value = self.value(input, depth, lets, bound)?;
+                let value = self.value(&way, input)?;
                 Some(update(register, value))
             }
             ActionNode::If => {
-                let truth = self.value(input, depth, lets, bound)?;
-                let action = self.action(input, depth, lets, bound)?;
+                let truth = self.value(&way, input)?;
+                let action = self.action(&way, input)?;
                 Some(chosen(truth, action, Ok(Kept::none())))
             }
             ActionNode::Parallel => {
-                let first = self.action(input, depth, lets, bound)?;
-                let second = self.action(input, depth, lets, bound)?;
+                let first = self.action(&way, input)?;
+                let second = self.action(&way, input)?;
                 Some(beside(first, second))
             }
             ActionNode::Sequence => {
-                let first = self.action(input, depth, lets, bound)?;
+                let first = self.action(&way, input)?;
                 let so_far = so_far_behind(self.so_far, first);
                 let behind = Worker {
                     so_far: &so_far,
                     ..*self
                 };
-                let second = behind.action(input, depth, lets, bound)?;
+                let second = behind.action(&way, input)?;
                 Some(then(first, second))
             }
             ActionNode::When => {
-                let action = self.action(input, depth, lets, bound)?;
-                let guard = self.value(input, depth, lets, bound)?;
+                let action = self.action(&way, input)?;
+                let guard = self.value(&way, input)?;
                 Some(chosen(guard, action, Err(NotReady)))
             }
             ActionNode::Let => {
-                let lets = lets.checked_sub(1)?;
+                let within = way.past_let()?;
                 byte(input)?;
-                let value = self.value(input, depth, lets, bound)?;
-                self.action(input, depth, lets, bound.bind(value))
+                let value = self.value(within.first(), input)?;
+                self.action(&within.bind(value), input)
             }
             ActionNode::Local => {
-                let action = self.action(input, depth, lets, bound)?;
+                let action = self.action(&way, input)?;
                 Some(or_none(action))
             }
         }
@@ -137,6 +145,6 @@ pub fn work_out(body: &[u8], values: &[u32]) -> Option<Given<Kept>>
         so_far: &Kept::none(),
     };
     let mut input = body;
-    let done = worker.action(&mut input, 24, 8, Bindings::none())?;
+    let done = worker.action(&Way::to_body(Err(NotReady)), &mut input)?;
     input.is_empty().then_some(done)
 }

@@ -4,9 +4,8 @@ ghost use Rattle.std.specs.Prelude.{◌≡◌, ◌≤◌, ◌<◌, MatchOption};
 ghost use Rattle.outcome.specs.Writes.{no_writes, one_write, over, shared, mask, after};
 ghost use Rattle.outcome.specs.Kept.{meaning};
 
+use program::examine::MAX_REGISTERS;
 use std::array;
-
-const MAX_REGISTERS: usize = 64;
 
 /// The number of a register that can be written.
 #[derive(Clone, Copy)]

@@ -74,7 +74,7 @@ impl fmt::Display for Failure {
     fn fmt<W: fmt::Write>(&self, f: &mut fmt::Formatter<W>) -> fmt::Result {
         match self {
             Failure::Refused(Fault { refusal, place }) => {
-                let number = refusal.number();
+                let number = u8::from(*refusal);
                 write!(f, "refused {number} at {place}")
             }
             Failure::Mistaken(mistake) => write!(f, "error: {mistake}"),

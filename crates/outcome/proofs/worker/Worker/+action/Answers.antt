@@ -1,9 +1,6 @@
-use Rattle.std.proofs.Common.{◌<◌, rules}
-use Rattle.outcome.proofs.Steps.{writes_more}
+use Rattle.std.proofs.Common.{◌≡◌, rules}
+use Rattle.outcome.proofs.Steps.{writes_none}
 use Rattle.outcome.proofs.worker.Worker.+action.Goals as goal
 
-pub returns-in_err-lets-in-Let : goal.returns-in_err-lets-in-Let
-returns-in_err-lets-in-Let t c = let deep : 0 < c.args.depth = search rules in rw writes_more (search rules)
-
-pub returns-in_ok-value-in-Let : goal.returns-in_ok-value-in-Let
-returns-in_ok-value-in-Let t c = let deep : 0 < c.args.depth = search rules in rw writes_more (search rules)
+pub returns-in_err-way : goal.returns-in_err-way
+returns-in_err-way t c = let spent : c.args.way.now.depth ≡ 0 = search rules in rw writes_none (search rules)

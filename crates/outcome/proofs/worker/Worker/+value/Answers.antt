@@ -1,9 +1,6 @@
-use Rattle.std.proofs.Common.{◌<◌, rules}
-use Rattle.outcome.proofs.Steps.{value_more}
+use Rattle.std.proofs.Common.{◌≡◌, rules}
+use Rattle.outcome.proofs.Steps.{value_none}
 use Rattle.outcome.proofs.worker.Worker.+value.Goals as goal
 
-pub returns-in_err-lets-in-Let : goal.returns-in_err-lets-in-Let
-returns-in_err-lets-in-Let t c = let deep : 0 < c.args.depth = search rules in rw value_more (search rules)
-
-pub returns-in_ok-first-in-Let : goal.returns-in_ok-first-in-Let
-returns-in_ok-first-in-Let t c = let deep : 0 < c.args.depth = search rules in rw value_more (search rules)
+pub returns-in_err-way : goal.returns-in_err-way
+returns-in_err-way t c = let spent : c.args.way.now.depth ≡ 0 = search rules in rw value_none (search rules)
