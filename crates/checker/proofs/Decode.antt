@@ -55,7 +55,7 @@ action_again (LetIn k e a) (suc d) s p =
 action_again (Local a) zero s p = absurd (omega arith)
 action_again (Local a) (suc d) s p = rw (action_again a d s (omega arith))
 
-register_again : (r : Register) (s : List ℕ) → register_of (register_bytes r s) ≡ Some (r, s)
+pub register_again : (r : Register) (s : List ℕ) → register_of (register_bytes r s) ≡ Some (r, s)
 register_again r s = rw (kind_again r.kind, four_again r.initial)
 
 rule_again : (a : Action) (s : List ℕ) → depth a ≤ 24 → rule_of (rule_bytes a s) ≡ Some (a, s)

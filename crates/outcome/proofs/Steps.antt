@@ -1,12 +1,9 @@
--- The definitions of what is worked out, unfolded once: with no level left, and with one at least; and what lets have bound.
-use Rattle.std.proofs.Common.{◌≡◌, ℕ, zero, suc, ◌-◌, ◌<◌, List, [], ◌∷◌, map, None, Err, Result, refl, arith}
-use Rattle.std.specs.Prelude.{unwrap_or, slice_get, slice_index_or}
+-- The definitions of what is worked out, unfolded once: with no level left, and with one at least.
+use Rattle.std.proofs.Common.{◌≡◌, ℕ, zero, suc, ◌-◌, ◌<◌, List, None, refl, arith}
 use Rattle.terms.specs.Nodes.{value_node, action_node}
 use Rattle.program.specs.Decoding.{and_some, one}
-use Rattle.outcome.specs.declared.given.NotReady.{NotReady}
-use Rattle.outcome.specs.Held.{given, itself}
 use Rattle.outcome.specs.Writes.{Writes}
-use Rattle.outcome.specs.Outcome.{not_ready, Bindings}
+use Rattle.outcome.specs.Outcome.{Bindings}
 use Rattle.outcome.specs.Working.{node_worked, value_worked, act_worked, writes_worked}
 
 pub value_none : (store : List ℕ) (so_far : Writes) (d lets : ℕ) (bound : Bindings) (s : List ℕ) → d ≡ 0 →
@@ -36,10 +33,3 @@ pub writes_more : (store : List ℕ) (d : ℕ) (so_far : Writes) (lets : ℕ) (b
 unfolding writes_worked
 writes_more store zero so_far lets bound s less = absurd (omega arith)
 writes_more store (suc d) so_far lets bound s less = let e : suc d - 1 ≡ d = omega arith in rw e
-
--- What the let of a number has bound; one that is not around counts as not ready.
-pub bound_at : (values : List (Result ℕ NotReady)) (n : ℕ) →
-    given itself (unwrap_or (slice_get values n) (Err (record {}))) ≡ slice_index_or (map (given itself) values) n not_ready
-bound_at [] n = refl
-bound_at (x ∷ xs) zero = refl
-bound_at (x ∷ xs) (suc n) = bound_at xs n

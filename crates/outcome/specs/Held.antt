@@ -1,8 +1,7 @@
 -- What the code holds, in the words of the definitions.
-use Rattle.std.specs.Prelude.{ℕ, map, Ok, Err, Result}
+use Rattle.std.specs.Prelude.{Ok, Err, Result}
 use Rattle.outcome.specs.declared.given.NotReady.{NotReady}
-use Rattle.tree.specs.Paths.{Path}
-use Rattle.outcome.specs.Outcome.{Given, ready, not_ready, Bindings}
+use Rattle.outcome.specs.Outcome.{Given, ready, not_ready}
 
 -- What the code gives of a part, where f says what its values stand for: a value is ready, and the error says that the part is not.
 abbrev pub given : {A B : Type 0} → (A → B) → Result A NotReady → Given B
@@ -12,7 +11,3 @@ given f (Err e) = not_ready
 -- A number of the code stands for itself.
 abbrev pub itself : {A : Type 0} → A → A
 itself x = x
-
--- What the lets on a way have bound.
-abbrev pub bound_of : Path (Result ℕ NotReady) → Bindings
-bound_of way = map (given itself) way.scope

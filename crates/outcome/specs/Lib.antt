@@ -2,7 +2,6 @@ pub mod Writes
 pub mod Kept
 pub mod Working
 pub mod Held
-pub mod Workers
 pub mod Outcome
 pub mod Rules
 pub mod Laws

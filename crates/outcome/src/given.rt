@@ -1,6 +1,7 @@
 // What a part gives where it is ready, or that it is not ready.
 
-ghost use Rattle.std.specs.Prelude.{◌≡◌};
+ghost use Rattle.std.specs.Prelude.{◌≡◌, map, slice_index_or};
+ghost use Rattle.outcome.specs.Outcome.{not_ready};
 ghost use Rattle.outcome.specs.Held.{given, itself};
 ghost use Rattle.outcome.specs.Working.{operator_gives, choice_gives};
 
@@ -25,4 +26,11 @@ pub(crate) fn chosen<T: Drop>(truth: Given<u32>, first: Given<T>, second: Given<
     ensures { given itself result ≡ choice_gives (given itself truth) (given itself first) (given itself second) }
 {
     if truth? == 0 { second } else { first }
+}
+
+/// What the let of a number has bound; one that is not there is not ready.
+pub(crate) fn bound(scope: &[Given<u32>], number: usize) -> Given<u32>
+    ensures { given itself result ≡ slice_index_or (map (given itself) scope.now) number not_ready }
+{
+    scope.get(number).copied().unwrap_or(Err(NotReady))
 }

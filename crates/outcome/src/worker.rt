@@ -1,15 +1,14 @@
 // The worker: it works an expression or an action out on its bytes.
 
-ghost use Rattle.std.specs.Prelude.{◌≡◌, option_map, slice_index_or};
+ghost use Rattle.std.specs.Prelude.{◌≡◌, map, option_map};
+ghost use Rattle.terms.specs.Inputs.{taken};
 ghost use Rattle.outcome.specs.Kept.{meaning};
 ghost use Rattle.outcome.specs.Writes.{reading};
-ghost use Rattle.outcome.specs.Outcome.{not_ready};
-ghost use Rattle.outcome.specs.Held.{given, itself, bound_of};
-ghost use Rattle.outcome.specs.Workers.{with_rest};
+ghost use Rattle.outcome.specs.Held.{given, itself};
 ghost use Rattle.outcome.specs.Working.{value_worked, writes_worked, body_worked, GivesOutcome};
 
 use crate::actions::{beside, or_none, so_far_behind, then, update};
-use crate::given::{Given, NotReady, chosen, operated};
+use crate::given::{Given, NotReady, bound, chosen, operated};
 use crate::writes::{Kept, Register};
 use terms::input::{byte, word};
 use terms::node::{ActionNode, ValueNode};
@@ -22,15 +21,6 @@ struct Worker<'a> {
     store: &'a [u32],
     /// The writes so far.
     so_far: &'a Kept,
-}
-
-/// What the let of a number on the way has bound; one that is not on it counts as not ready.
-#[tactic(auto, using(crate::proofs::Steps::bound_at))]
-fn bound(way: &Way<Given<u32>>, number: usize) -> Given<u32>
-    ensures { given itself result ≡ slice_index_or (bound_of way.now) number not_ready }
-{
-    let bound = way.scope().get(number).copied();
-    bound.unwrap_or(Err(NotReady))
 }
 
 impl Worker<'_> {
@@ -47,17 +37,14 @@ impl Worker<'_> {
     /// Works the expression at the front of the input out.
     #[tactic(auto, using(crate::proofs::Steps::value_none, crate::proofs::Steps::value_more, std::proofs::lemmas::List::map_push))]
     fn value(&self, way: &Way<Given<u32>>, input: &mut &[u8]) -> Option<Given<u32>>
-        ensures { with_rest (given itself) result input.new.now ≡ value_worked self.now.store.now (meaning self.now.so_far.now) way.now.depth way.now.lets (bound_of way.now) input.old.now }
+        ensures { taken (option_map (given itself) result) input.new.now ≡ value_worked self.now.store.now (meaning self.now.so_far.now) way.now.depth way.now.lets (map (given itself) way.now.scope) input.old.now }
     {
         let way = way.deeper()?;
         match ValueNode::try_from(byte(input)?).ok()? {
-            ValueNode::Register => {
-                let register = usize::from(byte(input)?);
-                Some(Ok(self.read(register)))
-            }
+            ValueNode::Register => Some(Ok(self.read(usize::from(byte(input)?)))),
             ValueNode::Word => Some(Ok(word(input)?)),
             ValueNode::Truth => Some(Ok(u32::from(byte(input)?))),
-            ValueNode::Variable => Some(bound(&way, usize::from(byte(input)?))),
+            ValueNode::Variable => Some(bound(way.scope(), usize::from(byte(input)?))),
             ValueNode::Operator => {
                 let operator = byte(input)?;
                 let left = self.value(&way, input)?;
@@ -78,8 +65,8 @@ impl Worker<'_> {
             ValueNode::Let => {
                 let within = way.past_let()?;
                 byte(input)?;
-                let first = self.value(within.first(), input)?;
-                self.value(&within.bind(first), input)
+                let value = self.value(within.first(), input)?;
+                self.value(&within.bind(value), input)
             }
         }
     }
@@ -87,7 +74,7 @@ impl Worker<'_> {
     /// Works the action at the front of the input out.
     #[tactic(auto, using(crate::proofs::Steps::writes_none, crate::proofs::Steps::writes_more, std::proofs::lemmas::List::map_push))]
     fn action(&self, way: &Way<Given<u32>>, input: &mut &[u8]) -> Option<Given<Kept>>
-        ensures { with_rest (given meaning) result input.new.now ≡ writes_worked self.now.store.now way.now.depth (meaning self.now.so_far.now) way.now.lets (bound_of way.now) input.old.now }
+        ensures { taken (option_map (given meaning) result) input.new.now ≡ writes_worked self.now.store.now way.now.depth (meaning self.now.so_far.now) way.now.lets (map (given itself) way.now.scope) input.old.now }
     {
         let way = way.deeper()?;
         match ActionNode::try_from(byte(input)?).ok()? {

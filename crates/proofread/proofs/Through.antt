@@ -12,8 +12,9 @@ use Rattle.program.specs.Typing.{All, kinds_of, GoodRule, SomeUpTo, WellFormed}
 use Rattle.program.specs.Decoding.{register_of, program_of}
 use Rattle.program.specs.Verdict.{verdict}
 use Rattle.checker.specs.Accepted.{Bytes}
+use Rattle.checker.proofs.Decode.{register_again}
 use Rattle.checker.proofs.Decoded.{each, decoded}
-use Rattle.parts.proofs.Records.{register_again, body_again}
+use Rattle.parts.proofs.Records.{body_again}
 use Rattle.outcome.specs.Outcome.{outcome}
 use Rattle.outcome.specs.Working.{body_worked}
 use Rattle.outcome.proofs.Again.{gives_outcome}

@@ -3,4 +3,4 @@ use Rattle.outcome.proofs.Steps.{writes_none}
 use Rattle.outcome.proofs.worker.Worker.+action.Goals as goal
 
 pub returns-in_err-way : goal.returns-in_err-way
-returns-in_err-way t c = let spent : c.args.way.now.depth ≡ 0 = search rules in rw writes_none (search rules)
+returns-in_err-way t c = let none : c.args.way.now.depth ≡ 0 = search rules in rw writes_none (search rules)
