@@ -10,6 +10,8 @@ pub(crate) fn is_white(byte: u8) -> bool
     matches!(byte, b'\t' | b'\n' | b'\r' | b' ')
 }
 
+// `margin` and `word_length` stay two: a closure in place of the test would need a clause that it is a test, for one line each.
+
 /// How many bytes of white space a text begins with.
 fn margin(text: &[u8]) -> usize
     ensures { result ≡ margin text.now }

@@ -80,8 +80,7 @@ impl Worker<'_> {
         match ActionNode::try_from(byte(input)?).ok()? {
             ActionNode::Assign => {
                 let register = Register::new(byte(input)?)?;
-                let value = self.value(&way, input)?;
-                Some(update(register, value))
+                Some(update(register, self.value(&way, input)?))
             }
             ActionNode::If => {
                 let truth = self.value(&way, input)?;
@@ -114,10 +113,7 @@ impl Worker<'_> {
                 let value = self.value(within.first(), input)?;
                 self.action(&within.bind(value), input)
             }
-            ActionNode::Local => {
-                let action = self.action(&way, input)?;
-                Some(or_none(action))
-            }
+            ActionNode::Local => Some(or_none(self.action(&way, input)?)),
         }
     }
 }

@@ -45,6 +45,9 @@ impl Records {
         }
     }
 
+    // The loops of `rules` and `entries` stay two: one for both would be a generic function over a trait with a limit, a mark, a
+    // reader and its law, for six lines. They count what they answer, and no index.
+
     /// Reads the rules of a program with registers of these kinds.
     #[tactic(auto, using(crate::proofs::Steps::rules_left))]
     fn rules(self, kinds: &[Kind], input: &mut &[u8]) -> Result<usize, Fault>
@@ -109,6 +112,7 @@ pub fn examine(program: &[u8]) -> Result<Counts, Fault>
     }
     let records = Records { end: program.len() };
     let mut input = program;
+    // An array, since the check allocates nothing; a vector of fixed capacity would ask for a kind that stands for none.
     let mut kinds = [Kind::Truth; MAX_REGISTERS];
     let registers = records.registers(&mut kinds, &mut input)?;
     let rules = records.rules(&kinds[..registers], &mut input)?;

@@ -17,7 +17,7 @@ use std::fs;
 use std::marker::Model;
 use std::str::from_utf8;
 
-/// A manual, seen as the list of the bytes of its program.
+/// What the reader keeps: a manual. Contracts see a session as the list of the manual's bytes.
 #[derive(Drop)]
 pub struct Session {
     heap: Global,

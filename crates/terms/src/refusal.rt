@@ -34,6 +34,7 @@ pub struct Fault {
 
 impl Refusal {
     /// The fault of a program that is refused for this at a place.
+    // A method, since the literal of a `Fault` and the `From` of a pair are longer at each of its calls.
     pub fn at(self, place: usize) -> Fault
         ensures { result ≡ fault self place }
     {

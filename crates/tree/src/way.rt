@@ -13,11 +13,14 @@ const MAX_LETS: usize = 8;
 const MAX_FORKS: u8 = 8;
 
 /// What may still be nested on the way to a node, and what the lets in whose last part it lies have bound.
+///
+/// Contracts see it as a `Path`, with one list of what is bound.
 #[derive(Drop)]
 pub struct Way<T: Copy> {
     depth: u8,
     lets: u8,
     forks: u8,
+    // An array, since nothing is allocated; a vector of fixed capacity asks for a default value, and can't be copied as `..*self`.
     values: [T; MAX_LETS],
     bound: usize,
 }
