@@ -71,11 +71,15 @@ truth_of t s = and_then (byte_of t s) (λ b. cond (nat_lt b.0 2) (Ok b.1) (Err (
 abbrev pub kind_at : Body → List ℕ → Read Kind
 kind_at t s = coded t.end t.short kind_of s
 
+-- A byte that stands for what may give the kind that is wanted: f says what each byte stands for, and fit whether that may.
+abbrev pub giving : {A : Type 0} → Body → (ℕ → Option A) → (Kind → A → Bool) → Kind → List ℕ → Read A
+giving t f fit want s =
+    and_then (byte_of t s) (λ b. and_then (or_fault (fault Sort (place t.end s)) (f b.0)) (λ x.
+    cond (fit want x) (Ok (x, b.1)) (Err (fault Sort (place t.end s)))))
+
 -- An operator that gives what is wanted.
 abbrev pub operator_at : Body → Kind → List ℕ → Read Operator
-operator_at t want s =
-    and_then (byte_of t s) (λ b. and_then (or_fault (fault Sort (place t.end s)) (operator_of b.0)) (λ o.
-    cond (same (given o) want) (Ok (o, b.1)) (Err (fault Sort (place t.end s)))))
+operator_at t want s = giving t operator_of (λ k o. same (given o) k) want s
 
 -- A number that names one of the things of these kinds: its kind.
 abbrev pub named_of : Body → List Kind → List ℕ → Read Kind
@@ -101,9 +105,7 @@ suits want ValueNode.Let = true
 
 -- The byte of a node that may give what is wanted.
 abbrev pub value_at : Body → Kind → List ℕ → Read ValueNode
-value_at t want s =
-    and_then (byte_of t s) (λ b. and_then (or_fault (fault Sort (place t.end s)) (value_node b.0)) (λ n.
-    cond (suits want n) (Ok (n, b.1)) (Err (fault Sort (place t.end s)))))
+value_at t want s = giving t value_node suits want s
 
 -- The byte of a node that gives writes.
 abbrev pub action_at : Body → List ℕ → Read ActionNode

@@ -1,11 +1,14 @@
 // The reader of a rule's body: one action, whose nodes are read in byte order.
 
-ghost use Rattle.std.specs.Prelude.{◌≡◌};
-ghost use Rattle.tree.specs.Reading.{word_of, truth_of, operator_at, named_of, wanted_of, value_at, suits, expression, action, tree};
+ghost use Rattle.std.specs.Prelude.{◌≡◌, Bool};
+ghost use Rattle.terms.specs.declared.kind.Kind.{Kind};
+ghost use Rattle.terms.specs.Kinds.{same, given};
+ghost use Rattle.tree.specs.Reading.{word_of, truth_of, giving, named_of, wanted_of, suits, expression, action, tree};
 ghost use Rattle.tree.specs.Readers.{body_of, after, passed};
 
 use crate::text::Text;
 use crate::way::Way;
+use terms::code::Code;
 use terms::kind::{Kind, Operator};
 use terms::node::{ActionNode, ValueNode};
 use terms::refusal::{Fault, Refusal};
@@ -17,14 +20,32 @@ struct Reader<'a> {
     kinds: &'a [Kind],
 }
 
-/// Whether a node may give what is wanted, as far as its byte tells.
-fn suits(want: Kind, node: ValueNode) -> bool
-    ensures { result ≡ suits want node }
-{
-    match node {
-        ValueNode::Word => want == Kind::Word,
-        ValueNode::Truth => want == Kind::Truth,
-        _ => true,
+/// What gives a value, as far as its byte tells.
+trait Gives: Code + Copy {
+    // Whether it may give the kind that is wanted.
+    ghost suits: { Kind → Self → Bool };
+
+    fn suits(self, want: Kind) -> bool
+        ensures { result ≡ suits want self };
+}
+
+impl Gives for Operator {
+    ghost suits = { λ want o. same (given o) want };
+
+    fn suits(self, want: Kind) -> bool {
+        self.gives() == want
+    }
+}
+
+impl Gives for ValueNode {
+    ghost suits = { suits };
+
+    fn suits(self, want: Kind) -> bool {
+        match self {
+            ValueNode::Word => want == Kind::Word,
+            ValueNode::Truth => want == Kind::Truth,
+            _ => true,
+        }
     }
 }
 
@@ -47,27 +68,14 @@ impl Reader<'_> {
         }
     }
 
-    /// An operator that gives what is wanted.
-    fn operator(&self, want: Kind, input: &mut &[u8]) -> Result<Operator, Fault>
-        ensures { after result input.new.now ≡ operator_at (body_of self.now) want input.old.now }
+    /// A byte that stands for what may give the kind that is wanted.
+    fn giving<C: Gives>(&self, want: Kind, input: &mut &[u8]) -> Result<C, Fault>
+        ensures { after result input.new.now ≡ giving (body_of self.now) C.meaning C.suits want input.old.now }
     {
         let place = self.text.place(input);
-        let operator: Operator = self.text.coded(input)?;
-        if operator.gives() == want {
-            Ok(operator)
-        } else {
-            Err(Refusal::Sort.at(place))
-        }
-    }
-
-    /// A node that may give what is wanted.
-    fn value_node(&self, want: Kind, input: &mut &[u8]) -> Result<ValueNode, Fault>
-        ensures { after result input.new.now ≡ value_at (body_of self.now) want input.old.now }
-    {
-        let place = self.text.place(input);
-        let node = self.text.coded(input)?;
-        if suits(want, node) {
-            Ok(node)
+        let code: C = self.text.coded(input)?;
+        if code.suits(want) {
+            Ok(code)
         } else {
             Err(Refusal::Sort.at(place))
         }
@@ -99,7 +107,7 @@ impl Reader<'_> {
         ensures { passed result input.new.now ≡ expression way.now.depth (body_of self.now) way.now.lets way.now.scope want input.old.now }
     {
         let too_deep = Refusal::Nesting.at(self.text.place(input));
-        let node = self.value_node(want, input)?;
+        let node: ValueNode = self.giving(want, input)?;
         let way = way.deeper().ok_or(too_deep)?;
         match node {
             ValueNode::Register => self.wanted(self.kinds, want, input),
@@ -107,7 +115,8 @@ impl Reader<'_> {
             ValueNode::Truth => self.truth(input),
             ValueNode::Variable => self.wanted(way.scope(), want, input),
             ValueNode::Operator => {
-                let kind = self.operator(want, input)?.takes();
+                let operator: Operator = self.giving(want, input)?;
+                let kind = operator.takes();
                 self.expression(&way, kind, input)?;
                 self.expression(&way, kind, input)
             }
