@@ -15,6 +15,8 @@ pub struct NotReady;
 pub type Given<T> = Result<T, NotReady>;
 
 /// The operator's value, where both operands are ready.
+// It hands the number on to `operate`. With an `Operator` in its place the worker's proof does not close: that a byte and its
+// operator give the same has to be said there for all operands, and the search stops at its limits.
 pub(crate) fn operated(operator: u8, left: Given<u32>, right: Given<u32>) -> Given<u32>
     ensures { given itself result ≡ operator_gives operator (given itself left) (given itself right) }
 {

@@ -20,11 +20,11 @@ pub struct Register {
 pub fn take_register(bytes: &[u8]) -> Option<(Register, &[u8])>
     ensures { register_taken result ≡ register_of bytes.now }
 {
-    let [0x52, 0x47, kind, rest @ ..] = bytes else {
+    let [0x52, 0x47, kind, value @ ..] = bytes else {
         return None;
     };
     let kind = Kind::try_from(*kind).ok()?;
-    let mut rest = rest;
+    let mut rest = value;
     let initial = word(&mut rest)?;
     Some((Register { kind, initial }, rest))
 }

@@ -32,6 +32,7 @@ impl Model for Session {
     ghost view = { λ s. s.manual.items };
 }
 
+// The runtime is handed on where it is used: kept in the session, it would put a lifetime on it.
 impl Session {
     /// A session whose manual has no bytes.
     pub fn new(heap: Global) -> Session

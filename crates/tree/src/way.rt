@@ -47,6 +47,9 @@ impl<T: Copy> Way<T> {
         }
     }
 
+    // `deeper`, `past_let` and `past_fork` differ in the field that they count down, which no parameter can be; an index in place
+    // of the three names would read worse.
+
     /// The way to the parts of a node, one deeper.
     pub fn deeper(&self) -> Option<Way<T>>
         ensures { result ≡ deeper self.now }
