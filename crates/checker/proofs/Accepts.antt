@@ -8,7 +8,7 @@ use Rattle.terms.specs.declared.kind.Kind.{Kind}
 use Rattle.terms.specs.declared.kind.Kind.TheVariants.{Truth, Word}
 use Rattle.terms.specs.declared.kind.Operator.{Operator}
 use Rattle.terms.specs.declared.kind.Operator.TheVariants.{Sum, Difference, And, Or, ExclusiveOr, Less, Equal, Both, Either}
-use Rattle.terms.specs.Kinds.{kind_of, kind_byte, same, fits, takes, gives, taken, given, operator_of}
+use Rattle.terms.specs.Kinds.{kind_of, kind_byte, same, fits, takes, gives, operand_kind, value_kind, operator_of}
 use Rattle.tree.specs.Reading.{Body, Read, place, expression, action}
 use Rattle.program.specs.Tree.{Expr, Fetch, Constant, Variable, Operate, Choose, Guard, Let, Action, Assign, If, Parallel, Sequence, When, LetIn, Local, Register, Entry, Program}
 use Rattle.program.specs.Encoding.{two_bytes, four_bytes, expr_bytes, action_bytes, register_bytes, rule_bytes, entry_bytes, all_bytes, encode}
@@ -24,8 +24,8 @@ same_kind Word = refl
 record Known (o : ℕ) : Type 0 where
   operator : Operator
   found : operator_of o ≡ Some operator
-  takes_it : taken operator ≡ takes o
-  gives_it : given operator ≡ gives o
+  takes_it : operand_kind operator ≡ takes o
+  gives_it : value_kind operator ≡ gives o
 
 known : (o : ℕ) → o < 9 → Known o
 known zero h = record { operator = Sum; found = refl; takes_it = refl; gives_it = refl }

@@ -6,7 +6,7 @@ use Rattle.terms.specs.declared.kind.Kind.{Kind}
 use Rattle.terms.specs.declared.kind.Kind.TheVariants.{Truth, Word}
 use Rattle.terms.specs.declared.node.ValueNode.{ValueNode}
 use Rattle.terms.specs.declared.node.ActionNode.{ActionNode}
-use Rattle.terms.specs.Kinds.{takes, taken}
+use Rattle.terms.specs.Kinds.{takes, operand_kind}
 use Rattle.tree.specs.Reading.{Body, fault, place, kind_at, operator_at, named_of, suits, value_at, value_parts, expression, action_at, action_parts, action}
 use Rattle.program.specs.Tree.{Expr, Fetch, Constant, Variable, Operate, Choose, Guard, Let, Action, Assign, If, Parallel, Sequence, When, LetIn, Local}
 use Rattle.program.specs.Encoding.{expr_bytes, action_bytes}
@@ -67,7 +67,7 @@ module _ (t : Body) (d : ℕ)
       let r = then_ok (operator_at t want s) _ m h in
       let g = operator_got t want s r.0 all r.1 in
       let o : ℕ = g.0 in
-      let q = then_ok (expression d t l scope (taken r.0.0) r.0.1) _ m r.2 in
+      let q = then_ok (expression d t l scope (operand_kind r.0.0) r.0.1) _ m r.2 in
       let x = inner l scope (takes o) r.0.1 q.0 g.5 (ap (λ (k : Kind). expression d t l scope k r.0.1) (sym g.4) ∙ q.1) in
       let y = inner l scope (takes o) q.0 m x.rest (ap (λ (k : Kind). expression d t l scope k q.0) (sym g.4) ∙ q.2) in
       let is = g.1 in let a = x.is in let b = y.is in

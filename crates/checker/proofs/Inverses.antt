@@ -7,7 +7,7 @@ use Rattle.terms.specs.declared.kind.Operator.{Operator}
 use Rattle.terms.specs.declared.kind.Operator.TheVariants.{Sum, Difference, And, Or, ExclusiveOr, Less, Equal, Both, Either}
 use Rattle.terms.specs.declared.node.ValueNode.{ValueNode}
 use Rattle.terms.specs.declared.node.ActionNode.{ActionNode}
-use Rattle.terms.specs.Kinds.{kind_of, kind_byte, same, fits, takes, gives, operator_of, operator_number, taken, given}
+use Rattle.terms.specs.Kinds.{kind_of, kind_byte, same, fits, takes, gives, operator_of, operator_number, operand_kind, value_kind}
 use Rattle.terms.specs.Nodes.{value_node, action_node}
 use Rattle.tree.specs.Reading.{Body, fault, and_then, or_fault, byte_of, word_of, truth_of, kind_at, operator_at, named_of, wanted_of, suits, value_at, action_at}
 use Rattle.program.specs.Encoding.{four_bytes}
@@ -127,7 +127,7 @@ operator_below Equal = omega arith
 operator_below Both = omega arith
 operator_below Either = omega arith
 
-pub operator_low : (b : ℕ) (o : Operator) → operator_of b ≡ Some o → (b < 9) × (taken o ≡ takes b) × (given o ≡ gives b)
+pub operator_low : (b : ℕ) (o : Operator) → operator_of b ≡ Some o → (b < 9) × (operand_kind o ≡ takes b) × (value_kind o ≡ gives b)
 operator_low b o h =
     let is : b ≡ operator_number o = operator_only b o h in
     let low = operator_below o in
@@ -217,18 +217,18 @@ module _ (t : Body) where
       (g.0, cc, (g.2.0, g.2.1 ∙ kind), subst Bytes end g.3)
 
   pub operator_got : (want : Kind) (s : List ℕ) (x : Operator × List ℕ) → Bytes s → operator_at t want s ≡ Ok x →
-      (o : ℕ) × (s ≡ o ∷ x.1) × (o < 9) × (gives o ≡ want) × (taken x.0 ≡ takes o) × Bytes x.1
+      (o : ℕ) × (s ≡ o ∷ x.1) × (o < 9) × (gives o ≡ want) × (operand_kind x.0 ≡ takes o) × Bytes x.1
   operator_got want s x all h =
       let r = then_ok (byte_of t s) _ x h in
       let g = byte_got s r.0 all r.1 in
       let o = then_ok (or_fault _ (operator_of r.0.0)) _ x r.2 in
       let known = or_ok _ (operator_of r.0.0) o.0 o.1 in
-      let k = cond_ok (same (given o.0) want) (Ok (o.0, r.0.1)) _ x o.2 in
+      let k = cond_ok (same (value_kind o.0) want) (Ok (o.0, r.0.1)) _ x o.2 in
       let end : ◌≡◌ {A = Operator × List ℕ} (o.0, r.0.1) x = ok_ok (o.0, r.0.1) x k.1 in
       let low = operator_low r.0.0 o.0 known in
       let P : Operator × List ℕ → Type 0 =
-      λ y. (n : ℕ) × (s ≡ n ∷ y.1) × (n < 9) × (gives n ≡ want) × (taken y.0 ≡ takes n) × Bytes y.1 in
-      subst P end (r.0.0, g.is, low.0, sym low.2 ∙ same_true (given o.0) want k.0, low.1, g.rest)
+      λ y. (n : ℕ) × (s ≡ n ∷ y.1) × (n < 9) × (gives n ≡ want) × (operand_kind y.0 ≡ takes n) × Bytes y.1 in
+      subst P end (r.0.0, g.is, low.0, sym low.2 ∙ same_true (value_kind o.0) want k.0, low.1, g.rest)
 
   pub value_got : (want : Kind) (s : List ℕ) (x : ValueNode × List ℕ) → Bytes s → value_at t want s ≡ Ok x →
       (s ≡ value_code x.0 ∷ x.1) × (suits want x.0 ≡ true) × Bytes x.1

@@ -6,7 +6,7 @@ use Rattle.terms.specs.declared.refusal.Fault.{Fault}
 use Rattle.terms.specs.declared.kind.Kind.{Kind}
 use Rattle.terms.specs.declared.kind.Kind.TheVariants.{Truth}
 use Rattle.tree.specs.Reading.{Body, fault, and_then, or_fault, place, byte_of, truth_of, kind_at, operator_at, named_of, wanted_of, suits, value_at, action_at}
-use Rattle.terms.specs.Kinds.{kind_of, same, operator_of, given}
+use Rattle.terms.specs.Kinds.{kind_of, same, operator_of, value_kind}
 use Rattle.terms.specs.Nodes.{value_node, action_node}
 
 -- What is read lies at or behind the place where reading began, and before the end: `rest` is what is left of a text that ends at `end`.
@@ -189,10 +189,10 @@ module _ (kinds : List Kind) where
 
   pub operator_one : (want : Kind) → OneByte behind further (λ end q. operator_at (body end q) want)
   operator_one want = record {
-    judge = λ c p m. and_then (or_fault (fault Sort p) (operator_of c)) (λ o. cond (same (given o) want) (Ok (o, m)) (Err (fault Sort p)));
+    judge = λ c p m. and_then (or_fault (fault Sort p) (operator_of c)) (λ o. cond (same (value_kind o) want) (Ok (o, m)) (Err (fault Sort p)));
     none = λ end q. refl;
     some = λ end q c m. refl;
-    judged = λ v c p. judged_option v p Sort (operator_of c) (λ o. same (given o) want);
+    judged = λ v c p. judged_option v p Sort (operator_of c) (λ o. same (value_kind o) want);
   }
 
   pub value_one : (want : Kind) → OneByte behind further (λ end q. value_at (body end q) want)

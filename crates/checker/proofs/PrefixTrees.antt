@@ -7,7 +7,7 @@ use Rattle.terms.specs.declared.kind.Kind.{Kind}
 use Rattle.terms.specs.declared.kind.Kind.TheVariants.{Truth}
 use Rattle.terms.specs.declared.node.ValueNode.{ValueNode}
 use Rattle.terms.specs.declared.node.ActionNode.{ActionNode}
-use Rattle.terms.specs.Kinds.{taken}
+use Rattle.terms.specs.Kinds.{operand_kind}
 use Rattle.tree.specs.Reading.{Body, Read, Passed, fault, and_then, place, byte_of, kind_at, operator_at, named_of, value_at, action_at, value_parts, action_parts, expression, action}
 use Rattle.checker.proofs.Prefix.{Beyond, Beside, stays, fails, past, OneByte, weaken, beyond_then, late_on, then_beside, then_same, left, longer, behind, further, place_same, one_beyond, one_beside, one_same, body, byte_one, truth_one, kind_one, operator_one, value_one, action_one, named_one, wanted_one}
 
@@ -55,8 +55,8 @@ module _ (kinds : List Kind) (end : ℕ) (q : Refusal) where
     value_parts_beyond ValueNode.Operator s le =
         weaken left left end from s _ le
         (and_beyond behind end s (operator_at t want s) _ (one_beyond (operator_one kinds want) end q s) (λ o.
-        and_beyond left end o.1 (expression d t l scope (taken o.0) o.1) _ (inner l scope (taken o.0) o.1) (λ m.
-        inner l scope (taken o.0) m)))
+        and_beyond left end o.1 (expression d t l scope (operand_kind o.0) o.1) _ (inner l scope (operand_kind o.0) o.1) (λ m.
+        inner l scope (operand_kind o.0) m)))
     value_parts_beyond ValueNode.Choice s le =
         weaken left left end from s _ le
         (and_beyond left end s (expression d t l scope Truth s) _ (inner l scope Truth s) (λ c.
@@ -179,7 +179,7 @@ module _ (kinds : List Kind) (a : ℕ) (v : List ℕ) (q₀ q : Refusal) where
     value_parts_side ValueNode.Truth w = (one_both (truth_one kinds)).side w
     value_parts_side ValueNode.Variable w = (one_both (wanted_one kinds scope want)).side w
     value_parts_side ValueNode.Operator w =
-        (value_then (operator_one kinds want) (λ o. both_then (inner l scope (taken o)) (inner l scope (taken o)))).side w
+        (value_then (operator_one kinds want) (λ o. both_then (inner l scope (operand_kind o)) (inner l scope (operand_kind o)))).side w
     value_parts_side ValueNode.Choice w =
         (both_then (inner l scope Truth) (both_then (inner l scope want) (inner l scope want))).side w
     value_parts_side ValueNode.Guard w = (both_then (inner l scope want) (inner l scope Truth)).side w

@@ -1,19 +1,39 @@
 -- What is at the front of a text, and what the definitions make of it.
-use Rattle.std.proofs.Common.{◌≡◌, ℕ, ◌+◌, ◌*◌, ◌≤◌, ◌⊎◌, inl, inr, Bool, true, false, cond, List, [], ◌∷◌, ◌++◌, length, Ok, Err, Result, refl, sym, ap, ◌∙◌, append_assoc, arith, length-drop}
+use Rattle.std.proofs.Common.{◌≡◌, ℕ, ◌+◌, ◌*◌, ◌≤◌, ◌⊎◌, inl, inr, Bool, true, false, cond, List, [], ◌∷◌, ◌++◌, length, drop, Ok, Err, Result, refl, sym, ap, ◌∙◌, append_assoc, arith, length-drop}
+use Rattle.std.specs.Prelude.{take_while, not}
 use Rattle.std.proofs.lemmas.List.Sums.{take_while-cons}
 use Rattle.command.specs.declared.mistake.Mistake.{Mistake}
 use Rattle.command.specs.declared.mistake.Mistake.TheVariants.{LoneDigit}
 use Rattle.command.specs.Steps.{mapped, and_then}
-use Rattle.command.specs.Words.{white, margin, stripped}
+use Rattle.command.specs.Words.{white, stripped, word_length}
 use Rattle.command.specs.Digits.{digit_of, second_of, pair_of, bytes_of}
+
+-- The definitions that go byte by byte, by the library's words.
+stripped_by : (b : ℕ) (s : List ℕ) (w : Bool) → white b ≡ w → drop (length (take_while white s)) s ≡ stripped s →
+    drop (length (take_while white (b ∷ s))) (b ∷ s) ≡ stripped (b ∷ s)
+stripped_by b s true e rest = rw (take_while-cons white b s, e) rest
+stripped_by b s false e rest = rw (take_while-cons white b s, e)
+
+pub stripped_is : (s : List ℕ) → drop (length (take_while white s)) s ≡ stripped s
+stripped_is [] = refl
+stripped_is (b ∷ s) = stripped_by b s (white b) refl (stripped_is s)
+
+word_by : (b : ℕ) (s : List ℕ) (w : Bool) → white b ≡ w → length (take_while (λ b. not (white b)) s) ≡ word_length s →
+    length (take_while (λ b. not (white b)) (b ∷ s)) ≡ word_length (b ∷ s)
+word_by b s true e rest = rw (take_while-cons (λ b. not (white b)) b s, e)
+word_by b s false e rest = rw (take_while-cons (λ b. not (white b)) b s, e, rest) (omega arith)
+
+pub word_length_is : (s : List ℕ) → length (take_while (λ b. not (white b)) s) ≡ word_length s
+word_length_is [] = refl
+word_length_is (b ∷ s) = word_by b s (white b) refl (word_length_is s)
 
 -- A first byte of white space goes, and any other stays with all that is behind it.
 abbrev Front : ℕ → List ℕ → Type 0
 Front b s = ((white b ≡ true) × (stripped (b ∷ s) ≡ stripped s)) ⊎ ((white b ≡ false) × (stripped (b ∷ s) ≡ b ∷ s))
 
 front_by : (b : ℕ) (s : List ℕ) (w : Bool) → white b ≡ w → Front b s
-front_by b s true e = inl (e, rw (take_while-cons white b s, e))
-front_by b s false e = inr (e, rw (take_while-cons white b s, e))
+front_by b s true e = inl (e, rw e)
+front_by b s false e = inr (e, rw e)
 
 front : (b : ℕ) (s : List ℕ) → Front b s
 front b s = front_by b s (white b) refl
@@ -54,11 +74,15 @@ bytes_word : (b : ℕ) (s : List ℕ) → white b ≡ false → bytes_of (b ∷ 
 bytes_word b [] w = rw w (lone (digit_of b))
 bytes_word b (c ∷ s) w = rw w (both (digit_of b) (digit_of c) (white c) s)
 
+-- What is stripped is no longer than the text.
+pub stripped_within : (s : List ℕ) → length (stripped s) ≤ length s
+stripped_within s = omega (arith, ap length (stripped_is s), length-drop (length (take_while white s)) s)
+
 -- The bytes of a text that does not begin with white space.
 bytes_pair : (s : List ℕ) → stripped s ≡ s → 1 ≤ length s → bytes_of s ≡ and_then (pair_of s) put
 bytes_pair [] h l = absurd (omega arith)
 bytes_pair (b ∷ s) h l =
-    elim (front b s) [ inl p ↦ absurd (omega (arith, ap length (sym p.1 ∙ h), length-drop (margin s) s)) | inr p ↦ bytes_word b s p.0 ]
+    elim (front b s) [ inl p ↦ absurd (omega (arith, ap length (sym p.1 ∙ h), stripped_within s)) | inr p ↦ bytes_word b s p.0 ]
 
 -- One byte more, at the end of those so far.
 pushed : (xs : List ℕ) (y : ℕ) (r : Result (List ℕ) Mistake) →

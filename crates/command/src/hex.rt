@@ -22,7 +22,7 @@ fn digit(byte: u8) -> Result<u8, Mistake>
 
 /// The byte that the two digits at the front of a text stand for, and what is behind them.
 fn pair(text: &[u8]) -> Result<(u8, &[u8]), Mistake>
-    ensures value { mapped (λ p. (p.0, p.1.now)) result ≡ pair_of text.now }
+    ensures is { mapped (λ p. (p.0, p.1.now)) result ≡ pair_of text.now }
     ensures shorter { IfOk result (λ p. length p.1.now < length text.now) }
 {
     let [first, rest @ ..] = text else {

@@ -31,8 +31,7 @@ pub fn parse(line: &[u8]) -> Result<Option<Command<'_>>, Mistake>
     if let [] | [b'#', ..] = word {
         return Ok(None);
     }
-    let verb = Verb::try_from(word)?;
-    Ok(Some(command_of(verb, rest)?))
+    command_of(Verb::try_from(word)?, rest).map(Some)
 }
 
 /// A command with what is behind its name.
@@ -59,7 +58,7 @@ fn file(rest: &[u8]) -> Result<&[u8], Mistake>
     }
 }
 
-/// What nothing may stand behind.
+/// The value, where nothing stands behind it.
 fn alone<T: Copy>(value: T, rest: &[u8]) -> Result<T, Mistake>
     ensures { result ≡ alone value (stripped rest.now) }
 {

@@ -1,7 +1,7 @@
 // The words of a line, which white space keeps apart.
 
-ghost use Rattle.std.specs.Prelude.{◌≡◌};
-ghost use Rattle.command.specs.Words.{white, margin, stripped, word_length, word, behind};
+ghost use Rattle.std.specs.Prelude.{◌≡◌, length, take_while, not};
+ghost use Rattle.command.specs.Words.{white, stripped, word, behind};
 
 /// Whether a byte is white space: a tab, a line feed, a carriage return or a space.
 pub(crate) fn is_white(byte: u8) -> bool
@@ -14,19 +14,20 @@ pub(crate) fn is_white(byte: u8) -> bool
 
 /// How many bytes of white space a text begins with.
 fn margin(text: &[u8]) -> usize
-    ensures { result ≡ margin text.now }
+    ensures { result ≡ length (take_while white text.now) }
 {
     text.iter().take_while(|b| is_white(**b)).count()
 }
 
 /// How many bytes stand before a text's first white space.
 fn word_length(text: &[u8]) -> usize
-    ensures { result ≡ word_length text.now }
+    ensures { result ≡ length (take_while (λ b. not (white b)) text.now) }
 {
     text.iter().take_while(|b| !is_white(**b)).count()
 }
 
 /// A text without the white space at its front.
+#[tactic(auto, using(crate::proofs::Texts::stripped_is))]
 pub(crate) fn strip(text: &[u8]) -> &[u8]
     ensures { result.now ≡ stripped text.now }
 {
@@ -34,6 +35,7 @@ pub(crate) fn strip(text: &[u8]) -> &[u8]
 }
 
 /// The first word of a text that does not begin with white space, and what is behind it.
+#[tactic(auto, using(crate::proofs::Texts::word_length_is))]
 pub(crate) fn split(text: &[u8]) -> (&[u8], &[u8])
     ensures first { result.0.now ≡ word text.now }
     ensures rest { result.1.now ≡ behind text.now }

@@ -8,6 +8,6 @@ abbrev pub given : {A B : Type 0} → (A → B) → Result A NotReady → Given 
 given f (Ok x) = ready (f x)
 given f (Err e) = not_ready
 
--- A number of the code stands for itself.
+-- A value that stands for itself.
 abbrev pub itself : {A : Type 0} → A → A
 itself x = x

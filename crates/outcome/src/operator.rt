@@ -23,8 +23,8 @@ pub fn apply(operator: Operator, left: u32, right: u32) -> u32
     }
 }
 
-/// The value of an operator, by its number. A number that is none counts as the last one.
-// It takes a number, since an `Operator` would ask more of its callers: `apply` stands beside it for those who have one.
+/// The value of an operator, by its number. A number that stands for no operator counts as `Either`.
+// It takes a number, since a public function takes every input that it took: `apply` stands beside it for who has an operator.
 pub fn operate(operator: u8, left: u32, right: u32) -> u32
     ensures { result ≡ operated operator left right }
 {

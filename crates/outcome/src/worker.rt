@@ -95,11 +95,11 @@ impl Worker<'_> {
             ActionNode::Sequence => {
                 let first = self.action(&way, input)?;
                 let so_far = so_far_behind(self.so_far, first);
-                let behind = Worker {
+                let after_first = Worker {
                     so_far: &so_far,
                     ..*self
                 };
-                let second = behind.action(&way, input)?;
+                let second = after_first.action(&way, input)?;
                 Some(then(first, second))
             }
             ActionNode::When => {

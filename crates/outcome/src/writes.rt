@@ -16,6 +16,7 @@ pub(crate) struct Register {
 
 impl Register {
     /// The register of a number, where there may be one.
+    // As `new` of the library's `NonZero`: a number is no encoding of a register, but it.
     pub(crate) fn new(number: u8) -> Option<Register>
         ensures { MatchOption result (64 ≤ number) (λ r. (number < 64) × (r.number ≡ number)) }
     {

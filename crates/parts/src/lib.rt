@@ -5,7 +5,8 @@ ghost use Rattle.std.specs.Prelude.{◌≡◌};
 ghost use Rattle.program.specs.Decoding.{register_of};
 ghost use Rattle.parts.specs.Parts.{body_of, OfRule, register_taken, body_taken};
 
-use terms::input::word;
+use program::record::Opening;
+use terms::input::{byte, word};
 use terms::kind::Kind;
 
 /// A register's record.
@@ -20,11 +21,10 @@ pub struct Register {
 pub fn take_register(bytes: &[u8]) -> Option<(Register, &[u8])>
     ensures { register_taken result ≡ register_of bytes.now }
 {
-    let [0x52, 0x47, kind, value @ ..] = bytes else {
+    let Opening::Register(mut rest) = Opening::from(bytes) else {
         return None;
     };
-    let kind = Kind::try_from(*kind).ok()?;
-    let mut rest = value;
+    let kind = Kind::try_from(byte(&mut rest)?).ok()?;
     let initial = word(&mut rest)?;
     Some((Register { kind, initial }, rest))
 }
@@ -34,7 +34,7 @@ pub fn take_rule(bytes: &[u8]) -> Option<(&[u8], &[u8])>
     ensures is { body_taken result ≡ body_of bytes.now }
     ensures of_rule { OfRule bytes.now (body_taken result) }
 {
-    let [0x52, 0x4C, high, low, rest @ ..] = bytes else {
+    let Opening::Rule([high, low, rest @ ..]) = Opening::from(bytes) else {
         return None;
     };
     rest.split_at_checked(usize::from(u16::from_be_bytes([*high, *low])))

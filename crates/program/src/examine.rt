@@ -1,20 +1,25 @@
 // The whole program: its records in order.
 
-ghost use Rattle.std.specs.Prelude.{◌≡◌, ◌≤◌, [], length, IfOk};
+ghost use Rattle.std.specs.Prelude.{◌≡◌, []};
 ghost use Rattle.tree.specs.Readers.{after};
 ghost use Rattle.program.specs.Verdict.{registers, rules, entries, ended, verdict};
 ghost use Rattle.program.specs.Records.{listed, allowed};
 
 use crate::record::{Opening, Records};
+use arrayvec::ArrayVec;
 use terms::kind::Kind;
 use terms::refusal::{Fault, Refusal};
 
+/// A program has at most so many bytes.
 pub const MAX_BYTES: usize = 16_384;
 
+/// A program has at most so many registers.
 pub const MAX_REGISTERS: usize = 64;
 
+/// A program has at most so many rules.
 pub const MAX_RULES: usize = 32;
 
+/// A program has at most so many entries.
 pub const MAX_ENTRIES: usize = 64;
 
 /// How many records of each sort a program has.
@@ -26,23 +31,20 @@ pub struct Counts {
 }
 
 impl Records {
-    /// Reads the registers, and notes the kind of each.
+    /// Reads the registers: the kind of each.
     #[tactic(auto, using(crate::proofs::Steps::registers_left))]
-    fn registers(self, kinds: &mut [Kind], input: &mut &[u8]) -> Result<usize, Fault>
-        ensures is { listed result kinds.new input.new.now ≡ registers (length kinds.old) self.end [] input.old.now }
-        ensures bound { IfOk result (λ n. n ≤ length kinds.new) }
+    fn registers(self, input: &mut &[u8]) -> Result<ArrayVec<Kind, MAX_REGISTERS>, Fault>
+        ensures { after (listed result) input.new.now ≡ registers 64 self.end [] input.old.now }
     {
-        for (count, kind) in kinds.iter_mut().enumerate() {
-            let Opening::Register(fields) = Opening::from(*input) else {
-                return Ok(count);
-            };
+        let mut kinds = ArrayVec::new();
+        while let Opening::Register(fields) = Opening::from(*input) {
+            if kinds.is_full() {
+                return Err(Refusal::Count.at(self.text().place(input)));
+            }
             *input = fields;
-            *kind = self.register(input)?;
+            kinds.push(self.register(input)?);
         }
-        match Opening::from(*input) {
-            Opening::Register(_) => Err(Refusal::Count.at(self.text().place(input))),
-            _ => Ok(kinds.len()),
-        }
+        Ok(kinds)
     }
 
     // The loops of `rules` and `entries` stay two: one for both would be a generic function over a trait with a limit, a mark, a
@@ -112,14 +114,12 @@ pub fn examine(program: &[u8]) -> Result<Counts, Fault>
     }
     let records = Records { end: program.len() };
     let mut input = program;
-    // An array, since the check allocates nothing; a vector of fixed capacity would ask for a kind that stands for none.
-    let mut kinds = [Kind::Truth; MAX_REGISTERS];
-    let registers = records.registers(&mut kinds, &mut input)?;
-    let rules = records.rules(&kinds[..registers], &mut input)?;
+    let kinds = records.registers(&mut input)?;
+    let rules = records.rules(kinds.as_slice(), &mut input)?;
     let entries = records.entries(rules, &mut input)?;
     records.finish(entries, input)?;
     Ok(Counts {
-        registers,
+        registers: kinds.len(),
         rules,
         entries,
     })

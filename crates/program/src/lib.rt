@@ -2,4 +2,4 @@
 #![tactic(auto)]
 
 pub mod examine;
-mod record;
+pub mod record;

@@ -12,8 +12,8 @@ use tree::reader::read_body;
 use tree::text::Text;
 
 /// What stands where a record may begin: a mark, with the bytes behind it, or none.
-#[derive(Clone, Copy)]
-pub(crate) enum Opening<'a> {
+#[derive(Clone, Copy, Debug, PartialEq, Eq)]
+pub enum Opening<'a> {
     Register(&'a [u8]),
     Rule(&'a [u8]),
     Entry(&'a [u8]),
@@ -75,10 +75,12 @@ impl Records {
         let length = u16::from_be_bytes([text.byte(input)?, text.byte(input)?]);
         match input.split_at_checked(usize::from(length)) {
             Some((body, rest)) => {
-                let end = text.place(rest);
-                let short = Refusal::Fill;
                 *input = rest;
-                read_body(body, Text { end, short }, kinds)
+                let text = Text {
+                    end: text.place(rest),
+                    short: Refusal::Fill,
+                };
+                read_body(body, text, kinds)
             }
             None => {
                 read_body(input, text, kinds)?;
@@ -97,7 +99,7 @@ impl Records {
             return Err(Refusal::Name.at(place));
         }
         let place = text.place(input);
-        if names_below(rules, text.word(input)?) {
+        if names_below(text.word(input)?, rules) {
             Ok(())
         } else {
             Err(Refusal::Name.at(place))
@@ -106,7 +108,7 @@ impl Records {
 }
 
 /// Whether a mask names only rules below a number.
-fn names_below(rules: usize, mask: u32) -> bool
+fn names_below(mask: u32, rules: usize) -> bool
     ensures { result ≡ nat_lt mask (2 ^ rules) }
 {
     rules >= 32 || mask >> rules == 0

@@ -51,10 +51,7 @@ fn behind_registers<'a>(program: &'a [u8], values: &[u32]) -> Option<&'a [u8]>
         }
         rest = behind;
     }
-    match take_register(rest) {
-        None => Some(rest),
-        Some(_) => None,
-    }
+    take_register(rest).is_none().then_some(rest)
 }
 
 /// The body of the rule of a number, where there is one.

@@ -33,13 +33,14 @@ takes o = cond (nat_lt o 7) Word Truth
 abbrev pub gives : ℕ → Kind
 gives o = cond (nat_lt o 5) Word Truth
 
--- There are nine operators, whose numbers count from 0: sum, difference, and, or and exclusive or of bits, less, equal, both, either.
+-- There are nine operators: 0 sum, 1 difference, 2 and, 3 or and 4 exclusive or of bits, 5 less, 6 equal, 7 both, 8 either.
 abbrev pub operator_of : ℕ → Option Operator
 operator_of o =
     cond (o == 0) (Some Sum) (cond (o == 1) (Some Difference) (cond (o == 2) (Some And)
     (cond (o == 3) (Some Or) (cond (o == 4) (Some ExclusiveOr) (cond (o == 5) (Some Less)
     (cond (o == 6) (Some Equal) (cond (o == 7) (Some Both) (cond (o == 8) (Some Either) None))))))))
 
+-- The number of an operator.
 abbrev pub operator_number : Operator → ℕ
 operator_number Sum = 0
 operator_number Difference = 1
@@ -52,8 +53,8 @@ operator_number Both = 7
 operator_number Either = 8
 
 -- What an operator takes and gives.
-abbrev pub taken : Operator → Kind
-taken o = takes (operator_number o)
+abbrev pub operand_kind : Operator → Kind
+operand_kind o = takes (operator_number o)
 
-abbrev pub given : Operator → Kind
-given o = gives (operator_number o)
+abbrev pub value_kind : Operator → Kind
+value_kind o = gives (operator_number o)

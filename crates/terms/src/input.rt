@@ -1,14 +1,7 @@
 // The front of the bytes that are still to be read.
 
 ghost use Rattle.std.specs.Prelude.{◌≡◌, IfNone};
-ghost use Rattle.terms.specs.Inputs.{place, one, four_of, taken};
-
-/// The place of the next byte, where these bytes are left of a text that ends at `end`.
-pub fn place(end: usize, input: &[u8]) -> usize
-    ensures { result ≡ place end input.now }
-{
-    end.saturating_sub(input.len())
-}
+ghost use Rattle.terms.specs.Inputs.{one, four_of, taken};
 
 /// Takes one byte, where there is one.
 pub fn byte(input: &mut &[u8]) -> Option<u8>

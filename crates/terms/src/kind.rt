@@ -2,13 +2,14 @@
 
 ghost use Rattle.std.specs.Prelude.{◌≡◌};
 ghost use Rattle.terms.specs.Codes.{known};
-ghost use Rattle.terms.specs.Kinds.{kind_of, fits, taken, given, operator_of};
+ghost use Rattle.terms.specs.Kinds.{kind_of, fits, operand_kind, value_kind, operator_of};
 
 use crate::code::{Code, Unknown};
 
-/// The type of a register, of what a let binds, and of what an expression gives.
-#[derive(Clone, Copy, Debug, PartialEq, Eq)]
+/// The type of a register, of what a let binds, and of what an expression gives. The default fills places that are not used yet.
+#[derive(Clone, Copy, Debug, Default, PartialEq, Eq)]
 pub enum Kind {
+    #[default]
     Truth,
     Word,
 }
@@ -89,7 +90,7 @@ impl Code for Operator {
 impl Operator {
     /// The kind of both operands.
     pub fn takes(self) -> Kind
-        ensures { result ≡ taken self }
+        ensures { result ≡ operand_kind self }
     {
         match self {
             Operator::Sum
@@ -105,7 +106,7 @@ impl Operator {
 
     /// The kind of the value.
     pub fn gives(self) -> Kind
-        ensures { result ≡ given self }
+        ensures { result ≡ value_kind self }
     {
         match self {
             Operator::Sum

@@ -1,12 +1,7 @@
 -- What the reader of a body answers, in the words of the definitions.
 use Rattle.std.specs.Prelude.{ℕ, List, Ok, Err, Result}
 use Rattle.terms.specs.declared.refusal.Fault.{Fault}
-use Rattle.tree.specs.declared.reader.Reader.{Reader}
-use Rattle.tree.specs.Reading.{Body, Read, Passed}
-
--- What stays the same while the reader reads.
-abbrev pub body_of : Reader → Body
-body_of r = record { end = r.text.end; kinds = r.kinds.now; short = r.text.short }
+use Rattle.tree.specs.Reading.{Read, Passed}
 
 -- What a reader answered, with what it left.
 abbrev pub after : {A : Type 0} → Result A Fault → List ℕ → Read A

@@ -11,7 +11,7 @@ use Rattle.terms.specs.declared.node.ActionNode.{ActionNode}
 pub use Rattle.terms.specs.Refusals.{fault}
 pub use Rattle.terms.specs.Inputs.{place}
 use Rattle.terms.specs.Inputs.{four_of}
-use Rattle.terms.specs.Kinds.{kind_of, same, operator_of, taken, given}
+use Rattle.terms.specs.Kinds.{kind_of, same, operator_of, operand_kind, value_kind}
 use Rattle.terms.specs.Nodes.{value_node, action_node}
 
 -- One reading after another: the first fault ends it.
@@ -45,8 +45,8 @@ next end q [] = Err (fault q end)
 next end q (b ∷ s) = Ok (b, s)
 
 -- A number of four bytes, the highest first.
-abbrev pub number : ℕ → Refusal → List ℕ → Read ℕ
-number end q s = or_fault (fault q end) (four_of s)
+abbrev pub four_at : ℕ → Refusal → List ℕ → Read ℕ
+four_at end q s = or_fault (fault q end) (four_of s)
 
 -- A byte that stands for something, where f says what each byte stands for, if for anything.
 abbrev pub coded : {A : Type 0} → ℕ → Refusal → (ℕ → Option A) → List ℕ → Read A
@@ -79,7 +79,7 @@ giving t f fit want s =
 
 -- An operator that gives what is wanted.
 abbrev pub operator_at : Body → Kind → List ℕ → Read Operator
-operator_at t want s = giving t operator_of (λ k o. same (given o) k) want s
+operator_at t want s = giving t operator_of (λ k o. same (value_kind o) k) want s
 
 -- A number that names one of the things of these kinds: its kind.
 abbrev pub named_of : Body → List Kind → List ℕ → Read Kind
@@ -127,7 +127,7 @@ value_parts t value lets scope want from ValueNode.Truth s = truth_of t s
 value_parts t value lets scope want from ValueNode.Variable s = wanted_of t scope want s
 value_parts t value lets scope want from ValueNode.Operator s =
     and_then (operator_at t want s) (λ o.
-    and_then (value lets scope (taken o.0) o.1) (λ l. value lets scope (taken o.0) l))
+    and_then (value lets scope (operand_kind o.0) o.1) (λ l. value lets scope (operand_kind o.0) l))
 value_parts t value lets scope want from ValueNode.Choice s =
     and_then (value lets scope Truth s) (λ c. and_then (value lets scope want c) (λ l. value lets scope want l))
 value_parts t value lets scope want from ValueNode.Guard s =

@@ -2,22 +2,29 @@
 
 ghost use Rattle.std.specs.Prelude.{◌≡◌, Bool};
 ghost use Rattle.terms.specs.declared.kind.Kind.{Kind};
-ghost use Rattle.terms.specs.Kinds.{same, given};
-ghost use Rattle.tree.specs.Reading.{word_of, truth_of, giving, named_of, wanted_of, suits, expression, action, tree};
-ghost use Rattle.tree.specs.Readers.{body_of, after, passed};
+ghost use Rattle.terms.specs.Kinds.{same, value_kind};
+ghost use Rattle.tree.specs.Reading.{Body, word_of, truth_of, giving, named_of, wanted_of, suits, expression, action, tree};
+ghost use Rattle.tree.specs.Readers.{after, passed};
 
 use crate::text::Text;
 use crate::way::Way;
+use std::marker::Model;
 use terms::code::Code;
 use terms::kind::{Kind, Operator};
 use terms::node::{ActionNode, ValueNode};
 use terms::refusal::{Fault, Refusal};
 
-/// A reader of a body, with the kinds of the registers.
-#[derive(Clone, Copy)]
+/// A reader of a body, with the kinds of the registers. Contracts see it as the `Body`.
+#[derive(Drop)]
 struct Reader<'a> {
     text: Text,
     kinds: &'a [Kind],
+}
+
+impl<'a> Model for Reader<'a> {
+    ghost Value = { Body };
+
+    ghost view = { λ r. record { end = r.text.end; kinds = r.kinds.now; short = r.text.short } };
 }
 
 /// What gives a value, as far as its byte tells.
@@ -30,7 +37,7 @@ trait Gives: Code + Copy {
 }
 
 impl Gives for Operator {
-    ghost suits = { λ want o. same (given o) want };
+    ghost suits = { λ want o. same (value_kind o) want };
 
     fn suits(self, want: Kind) -> bool {
         self.gives() == want
@@ -51,14 +58,14 @@ impl Gives for ValueNode {
 
 impl Reader<'_> {
     fn word(&self, input: &mut &[u8]) -> Result<(), Fault>
-        ensures { passed result input.new.now ≡ word_of (body_of self.now) input.old.now }
+        ensures { passed result input.new.now ≡ word_of self.now input.old.now }
     {
         self.text.word(input)?;
         Ok(())
     }
 
     fn truth(&self, input: &mut &[u8]) -> Result<(), Fault>
-        ensures { passed result input.new.now ≡ truth_of (body_of self.now) input.old.now }
+        ensures { passed result input.new.now ≡ truth_of self.now input.old.now }
     {
         let place = self.text.place(input);
         if self.text.byte(input)? < 2 {
@@ -70,7 +77,7 @@ impl Reader<'_> {
 
     /// A byte that stands for what may give the kind that is wanted.
     fn giving<C: Gives>(&self, want: Kind, input: &mut &[u8]) -> Result<C, Fault>
-        ensures { after result input.new.now ≡ giving (body_of self.now) C.meaning C.suits want input.old.now }
+        ensures { after result input.new.now ≡ giving self.now C.meaning C.suits want input.old.now }
     {
         let place = self.text.place(input);
         let code: C = self.text.coded(input)?;
@@ -83,7 +90,7 @@ impl Reader<'_> {
 
     /// A number that names one of the things of these kinds: its kind.
     fn named(&self, kinds: &[Kind], input: &mut &[u8]) -> Result<Kind, Fault>
-        ensures { after result input.new.now ≡ named_of (body_of self.now) kinds.now input.old.now }
+        ensures { after result input.new.now ≡ named_of self.now kinds.now input.old.now }
     {
         let place = self.text.place(input);
         let number = usize::from(self.text.byte(input)?);
@@ -92,7 +99,7 @@ impl Reader<'_> {
 
     /// The same, where the thing named has to be of the kind that is wanted.
     fn wanted(&self, kinds: &[Kind], want: Kind, input: &mut &[u8]) -> Result<(), Fault>
-        ensures { passed result input.new.now ≡ wanted_of (body_of self.now) kinds.now want input.old.now }
+        ensures { passed result input.new.now ≡ wanted_of self.now kinds.now want input.old.now }
     {
         let place = self.text.place(input);
         if self.named(kinds, input)? == want {
@@ -104,7 +111,7 @@ impl Reader<'_> {
 
     #[tactic(auto, using(crate::proofs::Steps::expression_is))]
     fn expression(&self, way: &Way<Kind>, want: Kind, input: &mut &[u8]) -> Result<(), Fault>
-        ensures { passed result input.new.now ≡ expression way.now.depth (body_of self.now) way.now.lets way.now.scope want input.old.now }
+        ensures { passed result input.new.now ≡ expression way.now.depth self.now way.now.lets way.now.scope want input.old.now }
     {
         let too_deep = Refusal::Nesting.at(self.text.place(input));
         let node: ValueNode = self.giving(want, input)?;
@@ -140,7 +147,7 @@ impl Reader<'_> {
 
     #[tactic(auto, using(crate::proofs::Steps::action_is))]
     fn action(&self, way: &Way<Kind>, input: &mut &[u8]) -> Result<(), Fault>
-        ensures { passed result input.new.now ≡ action way.now.depth (body_of self.now) way.now.lets way.now.forks way.now.scope input.old.now }
+        ensures { passed result input.new.now ≡ action way.now.depth self.now way.now.lets way.now.forks way.now.scope input.old.now }
     {
         let too_deep = Refusal::Nesting.at(self.text.place(input));
         let node = self.text.coded(input)?;

@@ -1,7 +1,7 @@
 // The bytes of a text, taken from the front.
 
 ghost use Rattle.std.specs.Prelude.{◌≡◌};
-ghost use Rattle.tree.specs.Reading.{place, next, number, coded};
+ghost use Rattle.tree.specs.Reading.{place, next, four_at, coded};
 ghost use Rattle.tree.specs.Readers.{after};
 
 use terms::code::Code;
@@ -9,6 +9,7 @@ use terms::input;
 use terms::refusal::{Fault, Refusal};
 
 /// A text that is being read. Its functions take what they read from the front of the bytes that are left of it.
+// The bytes that are left are no field: each reader's contract would then have to say that the others stay.
 #[derive(Clone, Copy)]
 pub struct Text {
     /// The place behind its last byte.
@@ -22,7 +23,7 @@ impl Text {
     pub fn place(self, input: &[u8]) -> usize
         ensures { result ≡ place self.end input.now }
     {
-        input::place(self.end, input)
+        self.end.saturating_sub(input.len())
     }
 
     /// One byte.
@@ -34,7 +35,7 @@ impl Text {
 
     /// A number of four bytes.
     pub fn word(self, input: &mut &[u8]) -> Result<u32, Fault>
-        ensures { after result input.new.now ≡ number self.end self.short input.old.now }
+        ensures { after result input.new.now ≡ four_at self.end self.short input.old.now }
     {
         input::word(input).ok_or(self.short.at(self.end))
     }
