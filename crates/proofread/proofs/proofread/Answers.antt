@@ -3,6 +3,7 @@ use Rattle.outcome.proofs.Laws.{no_double_write}
 use Rattle.proofread.proofs.Through.{reads}
 use Rattle.proofread.proofs.proofread.Goals as goal
 
+-- One for each way out: what is asked at each is the same, and not found from the lemma's name on the function.
 pub returns-then-rule-counts-clause-is : goal.returns-then-rule-counts-clause-is
 returns-then-rule-counts-clause-is c = reads _ _ _ _ c.type_inv.program (search rules)
 

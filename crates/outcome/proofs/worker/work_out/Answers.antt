@@ -2,6 +2,7 @@ use Rattle.std.proofs.Common.{rules}
 use Rattle.outcome.proofs.Again.{gives_outcome}
 use Rattle.outcome.proofs.worker.work_out.Goals as goal
 
+-- One for each way out.
 pub returns-in_err-done-clause-outcome : goal.returns-in_err-done-clause-outcome
 returns-in_err-done-clause-outcome c = gives_outcome _ _ _ (search rules)
 
