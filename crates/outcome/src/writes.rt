@@ -30,6 +30,7 @@ impl Register {
 }
 
 /// A set of writes: for each register the value that is written to it, if any.
+// Contracts name its `meaning`, and it has no model: what a model gives has to be data, and `Writes` are a function.
 #[derive(Clone, Copy)]
 pub struct Kept {
     values: [Option<u32>; MAX_REGISTERS],
