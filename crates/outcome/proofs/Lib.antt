@@ -5,3 +5,4 @@ pub mod Arrays
 pub mod Masks
 pub mod Steps
 pub mod Again
+pub mod Numbers

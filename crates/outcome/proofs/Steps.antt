@@ -1,7 +1,8 @@
 -- The definitions of what is worked out, unfolded once: with no level left, and with one at least.
-use Rattle.std.proofs.Common.{◌≡◌, ℕ, zero, suc, ◌-◌, ◌<◌, List, None, refl, arith}
+use Rattle.std.proofs.Common.{◌≡◌, ℕ, zero, suc, ◌-◌, ◌<◌, cond, eqb, List, Some, None, Option, refl, arith}
 use Rattle.terms.specs.Nodes.{value_node, action_node}
 use Rattle.program.specs.Decoding.{and_some, one}
+use Rattle.tree.specs.Paths.{Path, deeper}
 use Rattle.outcome.specs.Writes.{Writes}
 use Rattle.outcome.specs.Outcome.{Bindings}
 use Rattle.outcome.specs.Working.{node_worked, value_worked, act_worked, writes_worked}
@@ -33,3 +34,11 @@ pub writes_more : (store : List ℕ) (d : ℕ) (so_far : Writes) (lets : ℕ) (b
 unfolding writes_worked
 writes_more store zero so_far lets bound s less = absurd (omega arith)
 writes_more store (suc d) so_far lets bound s less = let e : suc d - 1 ≡ d = omega arith in rw e
+
+-- Where there is a way deeper, a level is left.
+some_of : {T : Type 0} (v : T) (d : ℕ) (o : Option T) → Some v ≡ cond (eqb d 0) None o → 0 < d
+some_of v zero o e = let z : ◌≡◌ {A = ℕ} 0 1 = cc in absurd (omega arith)
+some_of v (suc d) o e = omega arith
+
+pub level_left : {T : Type 0} (w v : Path T) → Some v ≡ deeper w → 0 < w.depth
+level_left w v e = some_of v w.depth _ e

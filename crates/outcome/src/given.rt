@@ -1,11 +1,13 @@
 // What a part gives where it is ready, or that it is not ready.
 
 ghost use Rattle.std.specs.Prelude.{◌≡◌, map, slice_index_or};
+ghost use Rattle.terms.specs.Kinds.{operator_number};
 ghost use Rattle.outcome.specs.Outcome.{not_ready};
 ghost use Rattle.outcome.specs.Held.{given, itself};
 ghost use Rattle.outcome.specs.Working.{operator_gives, choice_gives};
 
-use crate::operator::operate;
+use crate::operator::apply;
+use terms::kind::Operator;
 
 /// A part that is not ready.
 #[derive(Clone, Copy, Debug, PartialEq, Eq)]
@@ -15,12 +17,10 @@ pub struct NotReady;
 pub type Given<T> = Result<T, NotReady>;
 
 /// The operator's value, where both operands are ready.
-// It hands the number on to `operate`. With an `Operator` in its place the worker's proof does not close: that a byte and its
-// operator give the same has to be said there for all operands, and the search stops at its limits.
-pub(crate) fn operated(operator: u8, left: Given<u32>, right: Given<u32>) -> Given<u32>
-    ensures { given itself result ≡ operator_gives operator (given itself left) (given itself right) }
+pub(crate) fn operated(operator: Operator, left: Given<u32>, right: Given<u32>) -> Given<u32>
+    ensures { given itself result ≡ operator_gives (operator_number operator) (given itself left) (given itself right) }
 {
-    Ok(operate(operator, left?, right?))
+    Ok(apply(operator, left?, right?))
 }
 
 /// The first where the truth is 1, and the second where it is 0.

@@ -3,6 +3,7 @@
 ghost use Rattle.std.specs.Prelude.{◌≡◌};
 ghost use Rattle.terms.specs.Kinds.{operator_number};
 ghost use Rattle.outcome.specs.Outcome.{operated};
+ghost use Rattle.outcome.specs.Numbers.{named};
 
 use terms::kind::Operator;
 
@@ -23,11 +24,19 @@ pub fn apply(operator: Operator, left: u32, right: u32) -> u32
     }
 }
 
-/// The value of an operator, by its number. A number that stands for no operator counts as `Either`.
+/// The operator of a number. A number that stands for no operator counts as that of `Either`.
+#[tactic(auto, unfolding(crate::specs::Numbers::named))]
+pub(crate) fn named(number: u8) -> Operator
+    ensures { result ≡ named number }
+{
+    Operator::try_from(number).unwrap_or(Operator::Either)
+}
+
+/// The value of an operator, by its number.
 // It takes a number, since a public function takes every input that it took: `apply` stands beside it for who has an operator.
+#[tactic(auto, using(crate::proofs::Numbers::operated_named))]
 pub fn operate(operator: u8, left: u32, right: u32) -> u32
     ensures { result ≡ operated operator left right }
 {
-    let operator = Operator::try_from(operator).unwrap_or(Operator::Either);
-    apply(operator, left, right)
+    apply(named(operator), left, right)
 }

@@ -9,6 +9,7 @@ ghost use Rattle.outcome.specs.Working.{value_worked, writes_worked, body_worked
 
 use crate::actions::{beside, or_none, so_far_behind, then, update};
 use crate::given::{Given, NotReady, bound, chosen, operated};
+use crate::operator::named;
 use crate::writes::{Kept, Register};
 use terms::input::{byte, word};
 use terms::node::{ActionNode, ValueNode};
@@ -35,7 +36,7 @@ impl Worker<'_> {
     }
 
     /// Works the expression at the front of the input out.
-    #[tactic(auto, using(crate::proofs::Steps::value_none, crate::proofs::Steps::value_more, std::proofs::lemmas::List::map_push))]
+    #[tactic(auto, using(crate::proofs::Steps::value_none, crate::proofs::Steps::value_more, crate::proofs::Numbers::gives_named, std::proofs::lemmas::List::map_push))]
     fn value(&self, way: &Way<Given<u32>>, input: &mut &[u8]) -> Option<Given<u32>>
         ensures { taken (option_map (given itself) result) input.new.now ≡ value_worked self.now.store.now (meaning self.now.so_far.now) way.now.depth way.now.lets (map (given itself) way.now.scope) input.old.now }
     {
@@ -46,7 +47,7 @@ impl Worker<'_> {
             ValueNode::Truth => Some(Ok(u32::from(byte(input)?))),
             ValueNode::Variable => Some(bound(way.scope(), usize::from(byte(input)?))),
             ValueNode::Operator => {
-                let operator = byte(input)?;
+                let operator = named(byte(input)?);
                 let left = self.value(&way, input)?;
                 let right = self.value(&way, input)?;
                 Some(operated(operator, left, right))
