@@ -33,7 +33,7 @@ pub(crate) fn named(number: u8) -> Operator
 }
 
 /// The value of an operator, by its number.
-// It takes a number, since a public function takes every input that it took: `apply` stands beside it for who has an operator.
+// It takes a number, since a public function takes every input that it took: `apply` is for those who have an operator.
 #[tactic(auto, using(crate::proofs::Numbers::operated_named))]
 pub fn operate(operator: u8, left: u32, right: u32) -> u32
     ensures { result ≡ operated operator left right }
