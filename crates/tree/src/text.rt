@@ -1,6 +1,6 @@
 // The bytes of a text, taken from the front.
 
-ghost use Rattle.std.specs.Prelude.{◌≡◌};
+ghost use Rattle.std.specs.Prelude.{◌≡◌, drop, OnErr};
 ghost use Rattle.tree.specs.Reading.{place, next, four_at, coded};
 ghost use Rattle.tree.specs.Readers.{after};
 
@@ -28,21 +28,24 @@ impl Text {
 
     /// One byte.
     pub fn byte(self, input: &mut &[u8]) -> Result<u8, Fault>
-        ensures { after result input.new.now ≡ next self.end self.short input.old.now }
+        ensures is { after result input.new.now ≡ next self.end self.short input.old.now }
+        ensures left { OnErr result (input.new.now ≡ input.old.now) }
     {
         input::byte(input).ok_or(self.short.at(self.end))
     }
 
     /// A number of four bytes.
     pub fn word(self, input: &mut &[u8]) -> Result<u32, Fault>
-        ensures { after result input.new.now ≡ four_at self.end self.short input.old.now }
+        ensures is { after result input.new.now ≡ four_at self.end self.short input.old.now }
+        ensures left { OnErr result (input.new.now ≡ input.old.now) }
     {
         input::word(input).ok_or(self.short.at(self.end))
     }
 
-    /// A byte that stands for something.
+    /// A byte that stands for something. One that stands for nothing is taken too.
     pub fn coded<C: Code>(self, input: &mut &[u8]) -> Result<C, Fault>
-        ensures { after result input.new.now ≡ coded self.end self.short C.meaning input.old.now }
+        ensures is { after result input.new.now ≡ coded self.end self.short C.meaning input.old.now }
+        ensures left { OnErr result (input.new.now ≡ drop 1 input.old.now) }
     {
         let place = self.place(input);
         C::try_from(self.byte(input)?).map_err(|_| Refusal::Sort.at(place))
