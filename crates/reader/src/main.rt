@@ -14,7 +14,9 @@ use std::{env, io};
 
 fn main(rt: HostRuntime) -> io::Result<()> {
     let mut session = Session::new(rt.alloc());
-    print_answer(&rt, load_argument(&rt, &mut session))?;
+    if let Some(answer) = load_argument(&rt, &mut session).transpose() {
+        print_answer(&rt, answer)?;
+    }
     answer_lines(&rt, &mut session)
 }
 
@@ -27,19 +29,27 @@ fn load_argument(rt: &HostRuntime, session: &mut Session) -> Result<Option<Answe
 }
 
 /// Answers each line of standard input.
+// One buffer for all lines, since `BufRead::split` takes a new one from the allocator for each. No input has so many lines as the
+// bound.
 fn answer_lines(rt: &HostRuntime, session: &mut Session) -> io::Result<()> {
-    let input = BufReader::new(rt.alloc(), rt.stdin())?;
-    for line in input.split(rt.alloc(), b'\n') {
-        print_answer(rt, session.answer(rt, line?.as_slice()))?;
+    let mut input = BufReader::new(rt.alloc(), rt.stdin())?;
+    let mut line = Vec::new(rt.alloc());
+    for _ in 0..u64::MAX {
+        line.clear();
+        if input.read_until(b'\n', &mut line)? == 0 {
+            break;
+        }
+        if let Some(answer) = session.answer(rt, line.as_slice()).transpose() {
+            print_answer(rt, answer)?;
+        }
     }
     Ok(())
 }
 
-/// Prints an answer, if there is one, or why there is none.
-fn print_answer(rt: &HostRuntime, answer: Result<Option<Answer>, Failure>) -> io::Result<()> {
+/// Prints an answer, or why there is none.
+fn print_answer(rt: &HostRuntime, answer: Result<Answer, Failure>) -> io::Result<()> {
     match answer {
-        Ok(None) => Ok(()),
-        Ok(Some(answer)) => println!(rt; "{answer}"),
+        Ok(answer) => println!(rt; "{answer}"),
         Err(failure) => println!(rt; "{failure}"),
     }
 }
