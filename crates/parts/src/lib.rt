@@ -6,7 +6,7 @@ ghost use Rattle.program.specs.Decoding.{register_of};
 ghost use Rattle.parts.specs.Parts.{body_of, OfRule, register_taken, body_taken};
 
 use program::record::Opening;
-use terms::input::{byte, word};
+use terms::input::word;
 use terms::kind::Kind;
 
 /// A register's record.
@@ -21,10 +21,11 @@ pub struct Register {
 pub fn take_register(bytes: &[u8]) -> Option<(Register, &[u8])>
     ensures { register_taken result ≡ register_of bytes.now }
 {
-    let Opening::Register(mut rest) = Opening::from(bytes) else {
+    let Opening::Register([kind, rest @ ..]) = Opening::from(bytes) else {
         return None;
     };
-    let kind = Kind::try_from(byte(&mut rest)?).ok()?;
+    let kind = Kind::try_from(*kind).ok()?;
+    let mut rest = rest;
     let initial = word(&mut rest)?;
     Some((Register { kind, initial }, rest))
 }
